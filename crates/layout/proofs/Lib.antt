@@ -1,0 +1,5 @@
+pub mod Powers
+pub mod Order
+pub mod Sorting
+pub mod Placing
+mod Answers

@@ -1,0 +1,73 @@
+-- The loops that make the tables and give them their bases, on lists.
+use Prim.Native.Nat.{ℕ, zero, suc, zero-le, _+_, _-_, _*_, _^_, _≤_, _<_, max}
+use mathlib.Core.Bool.{Bool, true, false, not}
+use mathlib.Core.Path.{_≡_, refl, ap, sym, _∙_}
+use mathlib.Core.List.{List, [], _∷_, _++_, append-assoc}
+use native.Mathlib.Nat.{add-zero, add-assoc}
+use native.Mathlib.Numerals.{add-one}
+use native.Mathlib.Omega.{arith}
+use borrow.Author.Tests.{not-true, not-false}
+use lib.ListN.{length, getD, set, take, drop}
+use lib.Seq.{getD-drop, take-suc-set, drop-set-lt, drop-cons}
+use Rattle.fields.specs.Outcome.{pick}
+use Rattle.layout.specs.declared.Table.{Table}
+use Rattle.layout.specs.declared.Layout.{Layout}
+use Rattle.layout.specs.Layout.{noTable, tableOf, tablesFrom, sortInto, based, placeFrom, totalOf, rowsOf, layOut, isPow2, firstBad}
+use Rattle.layout.specs.Inner.{placed}
+
+-- a turn of the loop of `tables`
+pub one-table : (counts entries : List ℕ) (i : ℕ) → i < length counts → i < length entries
+    → tablesFrom i (drop i counts) (drop i entries) ≡ tableOf i (getD counts i 0) (getD entries i 0) ∷ tablesFrom (suc i) (drop (suc i) counts) (drop (suc i) entries)
+unfolding tablesFrom
+one-table counts entries i l m = rw (drop-cons counts i 0 l, drop-cons entries i 0 m)
+
+pub made : (out : List Table) (counts entries : List ℕ) (i : ℕ) → i < length out → i < length counts → i < length entries
+    → take (i + 1) (set out i (tableOf i (getD counts i 0) (getD entries i 0))) ++ tablesFrom (i + 1) (drop (i + 1) counts) (drop (i + 1) entries)
+    ≡ take i out ++ tablesFrom i (drop i counts) (drop i entries)
+made out counts entries i l m n =
+    let x = tableOf i (getD counts i 0) (getD entries i 0) in
+    rw (add-one, take-suc-set out i x l, one-table counts entries i m n) (append-assoc (take i out) (x ∷ []) (tablesFrom (suc i) (drop (suc i) counts) (drop (suc i) entries)))
+
+-- a turn of the loop of `first_bad`
+pub bad-on : (entries : List ℕ) (i : ℕ) → i < length entries → isPow2 (getD entries i 0) ≡ true → firstBad (i + 1) (drop (i + 1) entries) ≡ firstBad i (drop i entries)
+unfolding firstBad
+bad-on entries i l e = rw (add-one, drop-cons entries i 0 l, e)
+
+pub bad-here : (entries : List ℕ) (i : ℕ) → i < length entries → isPow2 (getD entries i 0) ≡ false → firstBad i (drop i entries) ≡ i
+unfolding firstBad
+bad-here entries i l e = rw (drop-cons entries i 0 l, e)
+
+-- a turn of the loop of `place`
+pub places : (out : List Table) (i at : ℕ) → i < length out
+    → take (i + 1) (set out i (based (getD out i noTable) at)) ++ placeFrom (at + getD out i noTable .bytes) (drop (i + 1) (set out i (based (getD out i noTable) at))) ≡ take i out ++ placeFrom at (drop i out)
+unfolding placeFrom
+places out i at l =
+    let x = getD out i noTable in
+    rw (add-one, take-suc-set out i (based x at) l, drop-set-lt (suc i) out i (based x at) (omega arith), drop-cons out i noTable l)
+    (append-assoc (take i out) (based x at ∷ []) (placeFrom (at + x .bytes) (drop (suc i) out)))
+
+pub total-on : (t : List Table) (i at : ℕ) → i < length t → at + getD t i noTable .bytes + totalOf (drop (i + 1) t) ≡ at + totalOf (drop i t)
+unfolding totalOf
+total-on t i at l = rw (add-one, drop-cons t i noTable l) (add-assoc at (getD t i noTable .bytes) (totalOf (drop (suc i) t)))
+
+-- tables that agree from i on agree at i
+pub same-at : (xs ys : List Table) (i : ℕ) → drop i xs ≡ drop i ys → getD xs i noTable ≡ getD ys i noTable
+same-at xs ys i e =
+    ap (λ (k : ℕ). getD xs k noTable) (sym (add-zero i))
+    ∙ sym (getD-drop i xs 0 noTable)
+    ∙ ap (λ (l : List Table). getD l 0 noTable) e
+    ∙ getD-drop i ys 0 noTable
+    ∙ ap (λ (k : ℕ). getD ys k noTable) (add-zero i)
+
+-- a table's place does not change its bytes
+pub total-placed : (at : ℕ) (xs : List Table) → totalOf (placeFrom at xs) ≡ totalOf xs
+unfolding totalOf placeFrom
+total-placed at [] = refl
+total-placed at (x ∷ xs) = ap (λ (n : ℕ). x .bytes + n) (total-placed (at + x .bytes) xs)
+
+-- the three steps of `lay_out`, one after the other
+pub laid-out : (counts entries : List ℕ) {made sorted : List Table} {l : Layout} → made ≡ tablesFrom 0 counts entries → sorted ≡ sortInto [] made → l ≡ placed sorted → l ≡ layOut counts entries
+laid-out counts entries a b c =
+    c
+    ∙ ap placed (b ∙ ap (sortInto []) a)
+    ∙ ap (λ (n : ℕ). record { rows = rowsOf counts entries; total = n }) (sym (total-placed 0 (sortInto [] (tablesFrom 0 counts entries))))
