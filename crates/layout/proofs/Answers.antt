@@ -52,13 +52,13 @@ module _ (counts entries : List ℕ) (most : ℕ) (r : Laid) (i : ℕ) (ei : i �
       refusal (Entry i) r (layoutOf counts entries most) e
       (is-verdict ∙ v-entry _ _ _ _ (lt-ltb _ _ (rw ei at h)) ∙ ap (λ (n : ℕ). refused 16 (n ∷ [])) (sym ei))
 
-  module _ (good : length entries ≤ i) (l : Layout) (el : l ≡ layOut counts entries) where
-    pub total-answers : most < l .total → r ≡ refusedLayout (Total (l .total)) → Answers r (layoutOf counts entries most)
+  module _ (good : length entries ≤ i) (t : ℕ) (et : t ≡ totalOf (rowsOf counts entries)) where
+    pub total-answers : most < t → r ≡ refusedLayout (Total t) → Answers r (layoutOf counts entries most)
     total-answers h e =
-        refusal (Total (l .total)) r (layoutOf counts entries most) e
-        (is-verdict ∙ v-total _ _ _ (le-ltb _ _ (rw ei at good)) (lt-ltb _ _ (rw el at h)) ∙ ap (λ (x : Layout). refused 17 (x .total ∷ [])) (sym el))
+        refusal (Total t) r (layoutOf counts entries most) e
+        (is-verdict ∙ v-total _ _ _ (le-ltb _ _ (rw ei at good)) (lt-ltb _ _ (rw et at h)) ∙ ap (λ (n : ℕ). refused 17 (n ∷ [])) (sym et))
 
-    pub good-answers : l .total ≤ most → r ≡ record { fit = Accepted; layout = l } → Answers r (layoutOf counts entries most)
-    good-answers h e =
-        let q = is-verdict ∙ v-good _ _ _ (le-ltb _ _ (rw ei at good)) (le-ltb _ _ (rw el at h)) in
+    pub good-answers : t ≤ most → (l : Layout) → l ≡ layOut counts entries → r ≡ record { fit = Accepted; layout = l } → Answers r (layoutOf counts entries most)
+    good-answers h l el e =
+        let q = is-verdict ∙ v-good _ _ _ (le-ltb _ _ (rw ei at good)) (le-ltb _ _ (rw et at h)) in
         (ap laid e ∙ ap value el ∙ sym q, ap (λ (x : Laid). x .layout) e ∙ el ∙ sym (ap (valueOr noLayout) q))

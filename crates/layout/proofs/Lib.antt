@@ -2,4 +2,5 @@ pub mod Powers
 pub mod Order
 pub mod Sorting
 pub mod Placing
+pub mod Bounds
 mod Answers

@@ -6,14 +6,17 @@ use mathlib.Core.List.{List, [], _∷_, _++_, append-assoc}
 use native.Mathlib.Nat.{add-zero, add-assoc}
 use native.Mathlib.Numerals.{add-one}
 use native.Mathlib.Omega.{arith}
-use borrow.Author.Tests.{not-true, not-false}
+use borrow.Author.Tests.{not-true, not-false, eq-eqb, ne-eqb}
+use lib.Dec.{eqb}
 use lib.ListN.{length, getD, set, take, drop}
 use lib.Seq.{getD-drop, take-suc-set, drop-set-lt, drop-cons}
 use Rattle.fields.specs.Outcome.{pick}
 use Rattle.layout.specs.declared.Table.{Table}
+use Rattle.layout.specs.declared.Placed.{Placed}
+use Rattle.layout.specs.declared.Range.{Range}
 use Rattle.layout.specs.declared.Layout.{Layout}
-use Rattle.layout.specs.Layout.{noTable, tableOf, tablesFrom, sortInto, based, placeFrom, totalOf, rowsOf, layOut, isPow2, firstBad}
-use Rattle.layout.specs.Inner.{placed}
+use Rattle.layout.specs.Layout.{noTable, tableOf, tablesFrom, sortInto, based, placeFrom, totalOf, rowsOf, isPow2, firstBad, tableIn, rangesOf, layOut}
+use Rattle.layout.specs.Inner.{All, Small, Modest, placed}
 
 -- a turn of the loop of `tables`
 pub one-table : (counts entries : List ℕ) (i : ℕ) → i < length counts → i < length entries
@@ -65,9 +68,46 @@ unfolding totalOf placeFrom
 total-placed at [] = refl
 total-placed at (x ∷ xs) = ap (λ (n : ℕ). x .bytes + n) (total-placed (at + x .bytes) xs)
 
--- the three steps of `lay_out`, one after the other
-pub laid-out : (counts entries : List ℕ) {made sorted : List Table} {l : Layout} → made ≡ tablesFrom 0 counts entries → sorted ≡ sortInto [] made → l ≡ placed sorted → l ≡ layOut counts entries
-laid-out counts entries a b c =
-    c
-    ∙ ap placed (b ∙ ap (sortInto []) a)
-    ∙ ap (λ (n : ℕ). record { rows = rowsOf counts entries; total = n }) (sym (total-placed 0 (sortInto [] (tablesFrom 0 counts entries))))
+-- the three steps to the tables with their bases, one after the other
+pub placed-rows : (counts entries : List ℕ) {made sorted : List Table} {p : Placed} → made ≡ tablesFrom 0 counts entries → sorted ≡ sortInto [] made → p ≡ placed sorted
+    → (p .rows ≡ rowsOf counts entries) × (p .total ≡ totalOf (rowsOf counts entries))
+placed-rows counts entries a b c =
+    let s = sortInto [] (tablesFrom 0 counts entries) in
+    let e = c ∙ ap placed (b ∙ ap (sortInto []) a) in
+    (ap (λ (x : Placed). x .rows) e, ap (λ (x : Placed). x .total) e ∙ sym (total-placed 0 s))
+
+-- the bases of small tables, placed from `at` on
+pub modest-from : (at n : ℕ) (xs : List Table) → length xs ≡ n → at + n * 2 ^ 48 ≤ 2 ^ 52 → All Small xs → All Modest (placeFrom at xs)
+unfolding placeFrom
+modest-from at n [] e h a = tt
+modest-from at n (x ∷ xs) e h a =
+    let k : n ≡ suc (length xs) = sym e in
+    let h′ : at + x .bytes + length xs * 2 ^ 48 ≤ 2 ^ 52 = omega (arith, a .0 .0) in
+    ((omega (arith, a .0 .0), a .0), modest-from (at + x .bytes) (length xs) xs refl h′ (a .1))
+
+-- a turn of the loop of `find`
+pub find-here : (rows : List Table) (i index : ℕ) → i < length rows → getD rows i noTable .index ≡ index → tableIn index (drop i rows) ≡ getD rows i noTable
+unfolding tableIn
+find-here rows i index l e = rw (drop-cons rows i noTable l, eq-eqb _ _ e)
+
+pub find-on : (rows : List Table) (i index : ℕ) → i < length rows → (getD rows i noTable .index ≡ index → ⊥) → tableIn index (drop (i + 1) rows) ≡ tableIn index (drop i rows)
+unfolding tableIn
+find-on rows i index l e = rw (add-one, drop-cons rows i noTable l, ne-eqb _ _ e)
+
+found-by : (P : Table → Type 0) (b : Bool) (x y : Table) → P x → P y → P (pick b x y)
+found-by P true x y p q = p
+found-by P false x y p q = q
+
+-- what holds of each table holds of the one found
+pub all-find : (P : Table → Type 0) (index : ℕ) (xs : List Table) → P noTable → All P xs → P (tableIn index xs)
+unfolding tableIn
+all-find P index [] p a = p
+all-find P index (x ∷ xs) p a = found-by P (eqb (x .index) index) x (tableIn index xs) (a .0) (all-find P index xs p (a .1))
+
+-- a layout made of such tables, their bytes and their ranges
+pub laid-out : (counts entries : List ℕ) {rows : List Table} {t : ℕ} {rs : List Range} → rows ≡ rowsOf counts entries → t ≡ totalOf (rowsOf counts entries) → rs ≡ rangesOf rows
+    → record { rows = rows; total = t; ranges = rs } ≡ layOut counts entries
+laid-out counts entries {rows} {t} {rs} a b c =
+    ap (λ (x : List Range). record { rows = rows; total = t; ranges = x }) c
+    ∙ ap (λ (n : ℕ). record { rows = rows; total = n; ranges = rangesOf rows }) b
+    ∙ ap (λ (x : List Table). record { rows = x; total = totalOf (rowsOf counts entries); ranges = rangesOf x }) a

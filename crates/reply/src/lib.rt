@@ -44,6 +44,13 @@ impl Kind {
     pub const MCG_LOG_ENTRY: u8 = 10;
 
     pub const MCG_ENTRY: u16 = 1024;
+
+    pub const MCG_COUNT: u32 = 256;
+
+    // Four quarters of 2^24 entries: for QPs, SRQs, CQs and EQs.
+    pub const CMPT_COUNT: u32 = 0x400_0000;
+
+    pub const CMPT_QUARTER: u64 = 0x100_0000;
 }
 
 // Which table's entry size stands where in a capability reply.
