@@ -3,4 +3,7 @@ pub mod Order
 pub mod Sorting
 pub mod Placing
 pub mod Bounds
+pub mod Rows
+pub mod Good
+pub mod Mapped
 mod Answers

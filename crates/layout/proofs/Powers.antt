@@ -11,10 +11,7 @@ use lib.Dec.{leb, eqb}
 use lib.Pow.{pow-mono, pow-lt}
 use Rattle.fields.specs.Outcome.{pick}
 use Rattle.layout.specs.Layout.{firstPow, pow2Of, isPow2}
-
--- a number is a power of two
-abbrev pub Pow : ℕ → Type 0
-Pow n = (k : ℕ) × (n ≡ 2 ^ k)
+use Rattle.layout.specs.Good.{Pow}
 
 -- one step of the search
 pub first-here : (n p x : ℕ) → 0 < n → x ≤ p → firstPow n p x ≡ p

@@ -1,3 +1,4 @@
 pub mod Layout
 pub mod Counts
 pub mod Inner
+pub mod Good
