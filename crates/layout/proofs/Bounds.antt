@@ -14,7 +14,7 @@ use Rattle.layout.proofs.Placing.{all-find}
 use Rattle.layout.proofs.Powers.{raised-le}
 
 -- whole cache lines hold at most 63 entries more than are reserved
-lines-lt : (reserved entry : ℕ) → 0 < entry → lines (reserved * entry) / entry < reserved + 64
+pub lines-lt : (reserved entry : ℕ) → 0 < entry → lines (reserved * entry) / entry < reserved + 64
 lines-lt reserved entry h =
     div-lt-iff-lt-mul {k = entry} {x = lines (reserved * entry)} {y = reserved + 64} h .1
     (omega (arith, div-mul-le-self (reserved * entry + 63) 64, add-mul reserved 64 entry))

@@ -10,6 +10,7 @@ use lib.Dec.{ltb, leb, eqb, lit≤}
 use lib.ListN.{length, getD}
 use lib.Pow.{pow-lt, pow-mono, pow-add}
 use Rattle.fields.specs.Outcome.{Outcome, value, refused, pick}
+use Rattle.fields.proofs.Outcomes.{past, same-value}
 use Rattle.layout.specs.declared.Table.{Table}
 use Rattle.layout.specs.declared.Layout.{Layout}
 use Rattle.layout.specs.Layout.{pow2Of, isPow2, firstBad, tableOf, tablesFrom, sortInto, based, placeFrom, totalOf, rowsOf, tableIn, layOut, layoutOf}
@@ -20,7 +21,7 @@ use Rattle.layout.proofs.Order.{all-map, all-sort}
 use Rattle.layout.proofs.Placing.{total-placed}
 use Rattle.layout.proofs.Rows.{before-le, tables-rising, sort-ordered, placed-ordered, placed-tiles, length-placed, length-sort, length-tables, find-sorted, find-placed, find-made}
 
-by-order : (P : Type 0) (i j : ℕ) (b : Bool) → leb i j ≡ b → (i ≤ j → P) → (j < i → P) → P
+pub by-order : (P : Type 0) (i j : ℕ) (b : Bool) → leb i j ≡ b → (i ≤ j → P) → (j < i → P) → P
 by-order P i j true e f g = f (leb-true i j e)
 by-order P i j false e f g = g (leb-false i j e)
 
@@ -61,6 +62,9 @@ max-pow m n a b =
 pub bytes-pow : (i count entry : ℕ) → count ≤ 2 ^ 63 → Pow entry → Pow (tableOf i count entry .bytes)
 bytes-pow i count entry h p = max-pow (pow2Of count * entry) 4096 (mul-pow (pow2Of count) entry (raised count h .power) p) (12, refl)
 
+pub pow-pos-of : (n : ℕ) → Pow n → 0 < n
+pow-pos-of n q = rw (q .1) (pow-mono {i = 0} {j = q .0} zero-le)
+
 -- what layouts are asked: counts of at most 63 bits, and as many of them as entries
 pub record Sized (counts entries : List ℕ) : Type 0 where
   pub same : length counts ≡ length entries
@@ -90,7 +94,7 @@ good counts entries s p =
           find-placed i 0 sorted
           ∙ ap (λ (t : Table). based t 0) (find-sorted i [] 0 made tt (tables-rising 0 counts entries))
           ∙ ap (λ (t : Table). based t 0)
-          (ap (λ (k : ℕ). tableIn k made) (sym (zero-add i)) ∙ find-made 0 i counts entries h (omega (arith, s .same)) ∙ ap (λ (k : ℕ). tableOf k (getD counts i 0) (getD entries i 0)) (zero-add i))
+          (ap (λ (k : ℕ). tableIn k made) (sym (zero-add i)) ∙ find-made 0 i counts entries h (omega (arith, s .same)) ∙ ap (λ (k : ℕ). tableOf k (getD counts i 0) (getD entries i 0)) (zero-add i));
     }
 
 -- the lowest bad index: none before it is bad
@@ -118,31 +122,29 @@ all-good n [] f = sym (add-zero n)
 all-good n (e ∷ es) f = rw (f 0 (omega arith)) (all-good (suc n) es (λ i l. f (suc i) (omega arith)) ∙ suc-add n (length es) ∙ sym (add-suc n (length es)))
 
 -- "Accepted exactly when all entries are powers of two and the total is at most max_icm": both ways.
-picked : (b c : Bool) (m n : ℕ) (v w : List ℕ) (x l : Layout) → pick b (refused m v) (pick c (refused n w) (value x)) ≡ value l → (b ≡ false) × (c ≡ false) × (l ≡ x)
-picked true c m n v w x l e = let z : _≡_ {A = ℕ} 0 1 = cc in absurd (omega arith)
-picked false true m n v w x l e = let z : _≡_ {A = ℕ} 0 1 = cc in absurd (omega arith)
-picked false false m n v w x l e = (refl, refl, cc)
-
 pow-test : (x : ℕ) → x ≤ 2 ^ 63 → Pow x → isPow2 x ≡ true
 pow-test x h p =
     by-order (isPow2 x ≡ true) (p .0) 63 (leb (p .0) 63) refl (λ l. pow-is x (p .0) l (p .1)) (λ l. let f : 2 ^ 63 < x = rw (p .1) (pow-lt l) in absurd (omega arith))
 
-module _ (counts entries : List ℕ) (most : ℕ) (s : Sized counts entries) where
+module _ (counts entries : List ℕ) (most : ℕ) (entry : (i : ℕ) → getD entries i 0 ≤ 2 ^ 63) where
   pub accepted : (l : Layout) → layoutOf counts entries most ≡ value l
       → ((i : ℕ) → i < length entries → Pow (getD entries i 0)) × (totalOf (rowsOf counts entries) ≤ most) × (l ≡ layOut counts entries)
   accepted l e =
       let bad = firstBad 0 entries in
       let total = totalOf (rowsOf counts entries) in
-      let p = picked (ltb bad (length entries)) (ltb most total) 16 17 (bad ∷ []) (total ∷ []) (layOut counts entries) l e in
+      let fits = pick (ltb most total) (refused 17 (total ∷ [])) (value (layOut counts entries)) in
+      let p = past (ltb bad (length entries)) 16 (bad ∷ []) fits l e in
+      let q = past (ltb most total) 17 (total ∷ []) (value (layOut counts entries)) l (p .1) in
       let n : 0 + length entries ≤ bad = rw (zero-add (length entries)) (ltb-false bad (length entries) (p .0)) in
-      (λ i h. is-pow (getD entries i 0) (s .entry i) (none-bad 0 entries n i h), ltb-false most total (p .1), p .2)
+      (λ i h. is-pow (getD entries i 0) (entry i) (none-bad 0 entries n i h), ltb-false most total (q .0), sym (same-value (q .1)))
 
   pub accepts : ((i : ℕ) → i < length entries → Pow (getD entries i 0)) → totalOf (rowsOf counts entries) ≤ most → layoutOf counts entries most ≡ value (layOut counts entries)
   accepts f h =
-      let e = all-good 0 entries (λ i l. pow-test (getD entries i 0) (s .entry i) (f i l)) ∙ zero-add (length entries) in
+      let e = all-good 0 entries (λ i l. pow-test (getD entries i 0) (entry i) (f i l)) ∙ zero-add (length entries) in
       let b : ltb (firstBad 0 entries) (length entries) ≡ false = le-ltb (firstBad 0 entries) (length entries) (omega (arith, e)) in
       rw (b, le-ltb most (totalOf (rowsOf counts entries)) h)
 
-  -- An accepted layout is good.
-  pub layout-good : (l : Layout) → layoutOf counts entries most ≡ value l → GoodLayout counts entries l
-  layout-good l e = let a = accepted l e in subst (GoodLayout counts entries) (sym (a .2)) (good counts entries s (a .0))
+-- An accepted layout is good.
+pub layout-good : (counts entries : List ℕ) (most : ℕ) → Sized counts entries → (l : Layout) → layoutOf counts entries most ≡ value l → GoodLayout counts entries l
+layout-good counts entries most s l e =
+    let a = accepted counts entries most (s .entry) l e in subst (GoodLayout counts entries) (sym (a .2)) (good counts entries s (a .0))

@@ -6,4 +6,5 @@ pub mod Bounds
 pub mod Rows
 pub mod Good
 pub mod Mapped
+pub mod Profiles
 mod Answers

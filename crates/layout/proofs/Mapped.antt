@@ -19,7 +19,7 @@ use Rattle.layout.specs.Good.{Multiple, Pow, Tiles, GoodLayout, Apart, E
 use Rattle.layout.proofs.Powers.{raised, raised-le, pow-is}
 use Rattle.layout.proofs.Placing.{all-find}
 use Rattle.layout.proofs.Rows.{by-eq, find-same, find-other}
-use Rattle.layout.proofs.Good.{pow-multiple, bytes-pow, add-multiple}
+use Rattle.layout.proofs.Good.{pow-multiple, bytes-pow, add-multiple, pow-pos-of}
 
 -- a table that tiles an area lies within it
 tiles-in : (a b i : ℕ) (xs : List Table) → Tiles a b xs → 0 < tableIn i xs .bytes → (a ≤ tableIn i xs .base) × (tableIn i xs .base + tableIn i xs .bytes ≤ b)
@@ -138,11 +138,8 @@ module _ (counts entries : List ℕ) (g : GoodLayout counts entries (layOut coun
   cmpt-count : at 8 .count ≡ 2 ^ 26
   cmpt-count = at-count 8 (lit< tt) ∙ ap pow2Of (k .cmpt) ∙ eqb-true (pow2Of (2 ^ 26)) (2 ^ 26) (pow-is (2 ^ 26) 26 (lit≤ tt) refl)
 
-  entry-pos : (e : ℕ) → Pow e → 0 < e
-  entry-pos e q = rw (q .1) (pow-mono {i = 0} {j = q .0} zero-le)
-
   cmpt-entry-pos : 0 < at 8 .entry
-  cmpt-entry-pos = rw (at-entry 8 (lit< tt)) (entry-pos (getD entries 8 0) (p 8 (omega (arith, k .eleven))))
+  cmpt-entry-pos = rw (at-entry 8 (lit< tt)) (pow-pos-of (getD entries 8 0) (p 8 (omega (arith, k .eleven))))
 
   cmpt-bytes : at 8 .bytes ≡ 2 ^ 26 * at 8 .entry
   cmpt-bytes =
@@ -174,7 +171,7 @@ module _ (counts entries : List ℕ) (g : GoodLayout counts entries (layOut coun
         from = add-multiple 4096 (at 8 .base) (q * (at 8 .entry * 2 ^ 24)) (base-paged 8 (lit< tt)) (q * (at 8 .entry * 2 ^ 12), quarter-step q (at 8 .entry));
         pages = ((at i .count * at 8 .entry + 4095) / 4096, refl);
         few = quarter-few q i h n;
-        within = omega (arith, quarter-in q i l h n .1, tiles-in 0 (L .total) 8 rows (g .tiles) (present 8 (lit< tt)) .1)
+        within = omega (arith, quarter-in q i l h n .1, tiles-in 0 (L .total) 8 rows (g .tiles) (present 8 (lit< tt)) .1);
       }
     where
       quarter-step : (q e : ℕ) → q * (e * 2 ^ 24) ≡ q * (e * 2 ^ 12) * 4096
@@ -269,8 +266,12 @@ module _ (counts entries : List ℕ) (g : GoodLayout counts entries (layOut coun
         each = (one-good 0 0 tt tt, (one-good 1 4 tt tt, (one-good 2 5 tt tt, (one-good 3 6 tt tt, wholes-good ten tt))));
         apart = (
           (one-one 0 1 0 4 tt tt, (one-one 0 2 0 5 tt tt, (one-one 0 3 0 6 tt tt, one-wholes 0 0 tt tt))),
-          ((one-one 1 2 4 5 tt tt, (one-one 1 3 4 6 tt tt, one-wholes 1 4 tt tt)),
-          ((one-one 2 3 5 6 tt tt, one-wholes 2 5 tt tt),
-          (one-wholes 3 6 tt tt, all-wholes-apart ten tt))),
-        )
+          (
+            (one-one 1 2 4 5 tt tt, (one-one 1 3 4 6 tt tt, one-wholes 1 4 tt tt)),
+            (
+              (one-one 2 3 5 6 tt tt, one-wholes 2 5 tt tt),
+              (one-wholes 3 6 tt tt, all-wholes-apart ten tt),
+            ),
+          ),
+        );
       }

@@ -5,7 +5,7 @@ use mathlib.Core.Logic.{_⊎_, inl, inr}
 use mathlib.Core.Path.{_≡_, refl, ap, sym, _∙_}
 use mathlib.Core.List.{List, [], _∷_, _++_, append-assoc, append-nil}
 use native.Mathlib.Omega.{arith}
-use native.Mathlib.Nat.{le-of-suc-le-suc, le-trans, add-zero, add-suc, suc-add, add-assoc, suc-inj}
+use native.Mathlib.Nat.{le-of-suc-le-suc, le-trans, add-zero, add-suc, suc-add, add-assoc, zero-add, suc-inj}
 use native.Mathlib.Numerals.{sub-one}
 use borrow.Author.Tests.{ltb-true, ltb-false, eq-eqb, ne-eqb, eqb-true, eqb-false}
 use lib.Arith.{lt-of-le-ne}
@@ -105,15 +105,15 @@ ordered-insert x done o lower =
     let j = spotOf done (x .bytes) n in
     let le : j ≤ n = spot-le done (x .bytes) n in
     let behind : All (Before x) (drop j done) =
-      all-getD (Before x) (drop j done) (λ k h. inl (rw (getD-drop j done k noTable) (spot-after done (x .bytes) n (j + k) (omega arith) (omega (arith, length-drop j done))))) in
+    all-getD (Before x) (drop j done) (λ k h. inl (rw (getD-drop j done k noTable) (spot-after done (x .bytes) n (j + k) (omega arith) (omega (arith, length-drop j done))))) in
     let front : All (λ y. x .bytes ≤ y .bytes) (take j done) =
-      all-getD (λ y. x .bytes ≤ y .bytes) (take j done)
-      (λ k h. let l : k < j = omega (arith, length-take-le j done le) in
-      rw (getD-take j done k noTable l)
-      (le-trans (spot-before done (x .bytes) n (omega arith)) (ordered-bytes done o k (j - 1) (omega arith) (omega arith)))) in
+    all-getD (λ y. x .bytes ≤ y .bytes) (take j done)
+    (λ k h. let l : k < j = omega (arith, length-take-le j done le) in
+    rw (getD-take j done k noTable l)
+    (le-trans (spot-before done (x .bytes) n (omega arith)) (ordered-bytes done o k (j - 1) (omega arith) (omega arith)))) in
     let before : All (λ y. Before y x) (take j done) =
-      all-map (λ y. (x .bytes ≤ y .bytes) × (y .index < x .index)) (λ y. Before y x) (take j done) (λ y h. goes-before x y (h .0) (h .1))
-      (all-both (λ y. x .bytes ≤ y .bytes) (λ y. y .index < x .index) (take j done) front (all-take (λ y. y .index < x .index) j done lower)) in
+    all-map (λ y. (x .bytes ≤ y .bytes) × (y .index < x .index)) (λ y. Before y x) (take j done) (λ y h. goes-before x y (h .0) (h .1))
+    (all-both (λ y. x .bytes ≤ y .bytes) (λ y. y .index < x .index) (take j done) front (all-take (λ y. y .index < x .index) j done lower)) in
     ordered-append (take j done) (x ∷ drop j done) (ordered-take j done o) (behind, ordered-drop j done o)
     (all-both (λ y. Before y x) (λ y. All (Before y) (drop j done)) (take j done) before (ordered-across j done o))
 
@@ -242,3 +242,23 @@ find-made n zero (c ∷ cs) (e ∷ es) h l = rw (add-zero n) (find-same n (table
 find-made n (suc i) (c ∷ cs) (e ∷ es) h l =
     find-other (n + suc i) (tableOf n c e) (tablesFrom (suc n) cs es) (λ q. omega arith)
     ∙ rw (add-suc n i, ← (suc-add n i)) (find-made (suc n) i cs es (le-of-suc-le-suc h) (le-of-suc-le-suc l))
+
+-- sorting keeps the bytes of all
+total-append : (xs ys : List Table) → totalOf (xs ++ ys) ≡ totalOf xs + totalOf ys
+unfolding totalOf
+total-append [] ys = sym (zero-add (totalOf ys))
+total-append (x ∷ xs) ys = ap (λ (n : ℕ). x .bytes + n) (total-append xs ys) ∙ sym (add-assoc (x .bytes) (totalOf xs) (totalOf ys))
+
+total-inserted : (j : ℕ) (x : Table) (done : List Table) → totalOf (insertAt j x done) ≡ totalOf done + x .bytes
+unfolding totalOf
+total-inserted j x done =
+    let a = total-append (take j done) (x ∷ drop j done) in
+    let b = sym (total-append (take j done) (drop j done)) ∙ ap totalOf (take-append-drop j done) in
+    a ∙ omega (arith, b)
+
+pub total-sorted : (done xs : List Table) → totalOf (sortInto done xs) ≡ totalOf done + totalOf xs
+unfolding sortInto totalOf
+total-sorted done [] = sym (add-zero (totalOf done))
+total-sorted done (x ∷ xs) =
+    let j = spotOf done (x .bytes) (length done) in
+    total-sorted (insertAt j x done) xs ∙ ap (λ (n : ℕ). n + totalOf xs) (total-inserted j x done) ∙ add-assoc (totalOf done) (x .bytes) (totalOf xs)

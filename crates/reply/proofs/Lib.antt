@@ -1,2 +1,3 @@
 pub mod Laws
 mod Answers
+pub mod Bounded

@@ -1,8 +1,9 @@
 -- The capability reply: the fields that the Rust's `query_dev_cap` reads, at their offsets, and the tests on it, 12 to 15, in their order.
-use Prim.Native.Nat.{ℕ, _+_, _*_, _/_, _%_, _^_, max}
+use Prim.Native.Nat.{ℕ, _+_, _*_, _/_, _%_, _^_, _≤_, _<_, max}
 use mathlib.Core.Bool.{Bool, true, false, _||_, not}
+use mathlib.Core.Path.{_≡_}
 use mathlib.Core.List.{List, [], _∷_}
-use lib.ListN.{length, set, replicate}
+use lib.ListN.{length, getD, set, replicate}
 use lib.Dec.{ltb, eqb}
 use Rattle.fields.specs.Fields.{be}
 use Rattle.fields.specs.Outcome.{Outcome, value, refused, valueOr, pick}
@@ -155,3 +156,14 @@ capability r = refusedBy (r .check) (r .cap)
 -- a refusal, with no capabilities beside it
 abbrev pub refusedCaps : CapCheck → Capability
 refusedCaps k = record { check = k; cap = noCaps }
+
+-- how large the fields of a reply can be (law `decoded-bounds`)
+pub record Bounds (c : DevCap) : Type 0 where
+  pub qps : c .«rsvd_qps» ≤ 2 ^ 15
+  pub srqs : c .«rsvd_srqs» ≤ 2 ^ 15
+  pub cqs : c .«rsvd_cqs» ≤ 2 ^ 15
+  pub mtts : c .«rsvd_mtts» ≤ 2 ^ 15
+  pub mpts : c .«rsvd_mpts» ≤ 2 ^ 15
+  pub sys : c .«num_sys_eqs» < 2 ^ 12
+  pub eleven : length (c .entry) ≡ 11
+  pub entries : (i : ℕ) → getD (c .entry) i 0 < 2 ^ 16

@@ -1,0 +1,16 @@
+//! The reference of document 01: the driver's Rust, unchanged and without
+//! overflow checks, over a `world::bus::Bus` in place of UEFI.
+//!
+//! `leaves` has its functions without a bus, `run` its calls.
+
+extern crate alloc;
+
+#[macro_use]
+mod console;
+mod glue;
+pub mod leaves;
+mod refusal;
+pub mod run;
+
+// fw, hcr, dma, bars and pci; see build.rs.
+include!(concat!(env!("OUT_DIR"), "/sources.rs"));

@@ -1,0 +1,97 @@
+//! Seeded worlds and lists of calls.
+
+use std::collections::BTreeSet;
+
+use oracle::run::{self, Driver, Given, SharedWorld};
+use world::bus::Resource;
+use world::calls::{self, Call};
+use world::plan::Plan;
+use world::results::{Closing, Outcome, Stop};
+use world::trace::{Event, Trace};
+
+/// How many seeds are run: 3,000, or what the environment variable SEEDS says.
+fn seeds() -> u64 {
+    std::env::var("SEEDS").map_or(3_000, |n| n.parse().expect("a number of seeds"))
+}
+
+fn session(seed: u64) -> (SharedWorld, Driver, Vec<(Call, Outcome<Given>)>) {
+    let (world, mut driver) = run::in_world(Plan::seeded(seed));
+    let mut given = Vec::new();
+    for call in calls::seeded(seed) {
+        let outcome = run::call(&mut driver, &call);
+        let over = call == Call::Open && outcome.is_err();
+        given.push((call, outcome));
+        if over {
+            break;
+        }
+    }
+    (world, driver, given)
+}
+
+/// Every page is back, unless the session is still open or was kept.
+fn assert_pages(seed: u64, world: &SharedWorld, given: &[(Call, Outcome<Given>)]) {
+    let world = &world.borrow().bus;
+    assert_eq!(world.misuse(), [""; 0], "seed {seed}");
+    assert_eq!(world.outside(), [""; 0], "seed {seed}");
+    let (call, outcome) = given.last().unwrap();
+    let closing = match outcome {
+        Ok(Given::Closed(c)) => Some(*c),
+        Err(Stop::Refused(r)) if *call == Call::Open => r.closing,
+        _ => None,
+    };
+    let back = matches!(closing, Some(Closing::Clean | Closing::Reset));
+    assert_eq!(world.in_use().is_empty(), back, "seed {seed}");
+}
+
+/// Every resource list that was given out went back at once.
+fn assert_lists(seed: u64, trace: &Trace) {
+    let events: Vec<Event> = trace.events().filter(|e| !matches!(e, Event::Stall { .. })).collect();
+    for (e, next) in events.iter().zip(events.iter().skip(1)) {
+        let given = match e {
+            Event::Resource { index, answer: Resource::List(_) } => Some(Event::FreePool { index: *index }),
+            _ => None,
+        };
+        assert_eq!(given.is_some(), matches!(next, Event::FreePool { .. }), "seed {seed}");
+        assert!(given.is_none_or(|g| g == *next), "seed {seed}");
+    }
+}
+
+#[test]
+fn seeds_stay_inside_the_domain_and_reach_every_end() {
+    let mut ends = BTreeSet::new();
+    for seed in 0..seeds() {
+        let (world, _, given) = session(seed);
+        assert_pages(seed, &world, &given);
+        assert_lists(seed, &world.borrow().trace);
+        for (_, outcome) in &given {
+            ends.insert(match outcome {
+                Ok(Given::Opened(_)) => "opened".to_string(),
+                Ok(Given::Closed(c)) => format!("{c:?}"),
+                Ok(_) => "good".to_string(),
+                Err(Stop::Refused(r)) => r.number.to_string(),
+                Err(Stop::Outside(why)) => panic!("seed {seed}: {why}"),
+            });
+        }
+    }
+    let numbers = (1..=17).chain([23]).map(|n: u32| n.to_string());
+    let all = numbers.chain(["opened", "good", "Clean", "Reset", "Kept"].map(String::from));
+    assert_eq!(ends, all.collect::<BTreeSet<_>>());
+}
+
+#[test]
+fn half_of_all_openings_are_good() {
+    let good = (0..1_000).filter(|s| matches!(session(*s).2[0].1, Ok(Given::Opened(_)))).count();
+    assert!((350..650).contains(&good), "{good} of 1000");
+}
+
+#[test]
+fn a_seed_gives_the_same_run_twice() {
+    for seed in 0..200 {
+        let run = || {
+            let (world, driver, given) = session(seed);
+            let trace = world.borrow_mut().take();
+            (trace.folded(), given, driver.state(), driver.mailboxes())
+        };
+        assert_eq!(run(), run(), "seed {seed}");
+    }
+}

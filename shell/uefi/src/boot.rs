@@ -1,0 +1,38 @@
+//! The boot services that the sources call. Both go to the hook of the
+//! running thread, so that they stand in the same trace as the bus calls.
+
+use core::ptr::NonNull;
+use core::time::Duration;
+use std::cell::RefCell;
+use std::rc::Rc;
+
+use crate::{Result, Status, StatusExt};
+
+/// What answers the boot services.
+pub trait Firmware {
+    fn stall(&self, time: Duration);
+    fn free_pool(&self, memory: NonNull<u8>) -> Status;
+}
+
+thread_local! {
+    static HOOK: RefCell<Option<Rc<dyn Firmware>>> = const { RefCell::new(None) };
+}
+
+/// Put `firmware` behind the boot services of this thread; gives what stood there.
+pub fn hook(firmware: Option<Rc<dyn Firmware>>) -> Option<Rc<dyn Firmware>> {
+    HOOK.replace(firmware)
+}
+
+fn hooked() -> Rc<dyn Firmware> {
+    HOOK.with_borrow(Clone::clone).expect("no firmware behind the boot services")
+}
+
+pub fn stall(time: Duration) {
+    hooked().stall(time);
+}
+
+/// # Safety
+/// As in UEFI: `memory` came from pool and is not used afterwards.
+pub unsafe fn free_pool(memory: NonNull<u8>) -> Result {
+    hooked().free_pool(memory).to_result()
+}
