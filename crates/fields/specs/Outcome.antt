@@ -14,6 +14,11 @@ abbrev pub valueOr : {A : Type 0} → A → Outcome A → A
 valueOr x (value a) = a
 valueOr x (refused n vs) = x
 
+-- the number of a refusal; 0 where there is none
+abbrev pub numberOf : {A : Type 0} → Outcome A → ℕ
+numberOf (value a) = 0
+numberOf (refused n vs) = n
+
 -- one of two, by a test
 abbrev pub pick {ℓ} : {A : Type ℓ} → Bool → A → A → A
 pick true a b = a

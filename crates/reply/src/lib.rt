@@ -7,8 +7,8 @@ ghost use Prim.Native.Nat.{_+_, _*_, _/_, _%_, _^_, _<_, _≤_, max};
 ghost use lib.ListN.{length};
 ghost use lib.Dec.{eqb};
 ghost use Rattle.fields.specs.Fields.{be};
-ghost use Rattle.fields.specs.Outcome.{valueOr, pick};
-ghost use Rattle.reply.specs.Capability.{capability, capabilityOf, devCapOf, entriesOf, noCaps, uarArea, aboveSize, oneOrTwo, refusedCaps};
+ghost use Rattle.fields.specs.Outcome.{valueOr, numberOf, pick};
+ghost use Rattle.reply.specs.Capability.{capability, capabilityOf, devCapOf, entriesOf, noCaps, uarArea, aboveSize, oneOrTwo, refusedBy, refusedCaps};
 
 // The kinds of ICM table, by index, and what is fixed for each.
 pub struct Kind {
@@ -147,6 +147,22 @@ pub enum CapCheck {
     Ports(u8),
     Uar(u8),
     UarArea(u64),
+}
+
+impl CapCheck {
+    // Document 01's number; 0 where the reply is good.
+    pub fn number(self) -> u32
+        ensures { λ r. ⌜ r ≡ numberOf (refusedBy self noCaps) ⌝ }
+    {
+        match self {
+            CapCheck::Good => 0,
+            CapCheck::Short => 21,
+            CapCheck::MinPage(_) => 12,
+            CapCheck::Ports(_) => 13,
+            CapCheck::Uar(_) => 14,
+            CapCheck::UarArea(_) => 15,
+        }
+    }
 }
 
 // The capabilities, where the reply is good; else all are 0.
