@@ -127,6 +127,18 @@ fn the_card_maps_the_14_ranges_page_by_page() {
 }
 
 #[test]
+fn quarters_have_the_pages_of_their_own_counts() {
+    let reserves = plan(|p| {
+        (p.card.replies.cap[0x14], p.card.replies.cap[0x1a]) = (0x80, 7);
+        p.card.replies.cap[0xa0] = 1;
+    });
+    let (_, driver) = opened(reserves);
+    let icm = driver.state().unwrap().icm;
+    let pages: Vec<u64> = icm[..4].iter().map(|(_, b)| b.pages).collect();
+    assert_eq!(pages, [1024, 512, 256, 128].map(|count| count * 64 / PAGE));
+}
+
+#[test]
 fn every_page_is_zeroed() {
     let (world, mut driver) = opened(Plan::obedient());
     let lent = run::lend(&mut driver, 5000).unwrap();

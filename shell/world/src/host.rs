@@ -82,7 +82,7 @@ impl Host {
         let odd = self.plan.odd_maps.iter().find(|(n, _)| *n == self.maps).map(|(_, o)| *o).unwrap_or_default();
         self.maps += 1;
         let mapped = odd.bytes.unwrap_or(bytes);
-        let address = odd.address.unwrap_or_else(|| self.address(bytes.max(mapped)));
+        let address = odd.address.unwrap_or_else(|| self.address(bytes.max(mapped).next_multiple_of(PAGE)));
         let buffer = self.buffer_mut(handle)?;
         buffer.mapped = true;
         buffer.role = if mapped == bytes { role } else { Role::Other };
@@ -155,7 +155,8 @@ impl Host {
         self.buffers.get_mut((handle.0 as usize).checked_sub(1)?)
     }
 
-    /// A page multiple at which `bytes` end by 2^64 and meet no mapped buffer.
+    /// A page multiple at which `bytes`, whole pages, end by 2^64 and meet no
+    /// mapped buffer.
     fn address(&mut self, bytes: u64) -> u64 {
         loop {
             let start = match self.plan.addresses {

@@ -1,0 +1,10 @@
+-- Every bench value, from the definitions.
+use mathlib.Core.Path.{refl}
+use Rattle.fields.specs.Fields.{digits, putDigits}
+use Rattle.reply.specs.Capability.{readInto}
+use Rattle.layout.specs.Layout.{firstPow, tablesFrom, spotOf, sortInto, placeFrom, totalOf, firstBad, tableIn}
+use Rattle.bench.specs.Bench.{AllHold, bench}
+
+pub bench-holds : AllHold bench
+unfolding digits putDigits readInto firstPow tablesFrom spotOf sortInto placeFrom totalOf firstBad tableIn
+bench-holds = (refl, (refl, (refl, (refl, (refl, (refl, (refl, (refl, (refl, tt)))))))))

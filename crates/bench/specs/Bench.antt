@@ -1,0 +1,106 @@
+-- The bench values of document 01, as one table. The theorem `bench-holds` of proofs/ says that the definitions give each of them.
+use Prim.Native.Nat.{ℕ}
+use mathlib.Core.List.{List, [], _∷_}
+use mathlib.Core.Path.{_≡_}
+use lib.ListN.{set, replicate}
+use Rattle.fields.specs.Fields.{putAt}
+use Rattle.fields.specs.Outcome.{Outcome, value, refused}
+use Rattle.fields.specs.declared.Order.the-variants.{Big}
+use Rattle.bars.specs.declared.Size.the-variants.{Unknown}
+use Rattle.reply.specs.declared.DevCap.{DevCap}
+use Rattle.reply.specs.Capability.{capabilityOf}
+use Rattle.layout.specs.declared.Table.{Table}
+use Rattle.layout.specs.declared.Layout.{Layout}
+use Rattle.layout.specs.Counts.{profileOf}
+
+-- a line of the listing: the table's index, entry, count, bytes and base
+abbrev line : (index entry count bytes base : ℕ) → Table
+line i e c b a = record { index = i; entry = e; count = c; bytes = b; base = a }
+
+-- what the listing prints: the tables in the order of their bases, and the total
+pub record Listing : Type 0 where
+  pub rows : List Table
+  pub total : ℕ
+
+abbrev pub listed : Layout → Listing
+listed l = record { rows = l .rows; total = l .total }
+
+abbrev pub listOf : Outcome Layout → Outcome Listing
+listOf (value l) = value (listed l)
+listOf (refused n vs) = refused n vs
+
+abbrev pub thenProfile : Outcome DevCap → Outcome Listing
+thenProfile (value c) = listOf (profileOf c)
+thenProfile (refused n vs) = refused n vs
+
+-- the listing of a capability reply, "BAR size unknown"
+abbrev pub listingOf : List ℕ → Outcome Listing
+listingOf s = thenProfile (capabilityOf s Unknown)
+
+abbrev be16 : List ℕ → (off v : ℕ) → List ℕ
+be16 s off v = putAt Big s off 2 v
+
+abbrev be64 : List ℕ → (off v : ℕ) → List ℕ
+be64 s off v = putAt Big s off 8 v
+
+-- "Input L: zeros but 0x1f=07, 0x37=01, 0x4b=12; be16 0x80=32, 0x82=256, 0x84=32, 0x86=64, 0x88=128, 0x8a=128, 0x8c=128, 0x8e=64, 0x90=8, 0x92=64;
+-- be64 0xa0=0x100121000"
+abbrev bytesL : List ℕ
+bytesL = set (set (set (replicate 168 0) 0x1f 7) 0x37 1) 0x4b 12
+
+abbrev entriesL : List ℕ
+entriesL =
+    be16 (be16 (be16 (be16 (be16 (be16 (be16 (be16 (be16 (be16 bytesL 0x80 32) 0x82 256) 0x84 32) 0x86 64) 0x88 128) 0x8a 128) 0x8c 128) 0x8e 64) 0x90 8) 0x92 64
+
+abbrev pub inputL : List ℕ
+inputL = be64 entriesL 0xa0 0x100121000
+
+-- the listing that document 01 prints for it
+abbrev pub listingL : Listing
+listingL =
+    record {
+      rows =
+          line 8 64 67108864 0x100000000 0x0
+          ∷ line 1 32 16384 0x80000 0x100000000
+          ∷ line 0 256 1024 0x40000 0x100080000
+          ∷ line 10 1024 256 0x40000 0x1000c0000
+          ∷ line 2 64 1024 0x10000 0x100100000
+          ∷ line 3 32 1024 0x8000 0x100110000
+          ∷ line 6 128 128 0x4000 0x100118000
+          ∷ line 5 128 64 0x2000 0x10011c000
+          ∷ line 4 128 2 0x1000 0x10011e000
+          ∷ line 7 64 64 0x1000 0x10011f000
+          ∷ line 9 8 512 0x1000 0x100120000
+          ∷ [];
+      total = 0x100121000;
+    }
+
+-- a bench value: a reply with what its listing comes to
+pub data Case : Type 0 where
+  reply : List ℕ → Outcome Listing → Case
+
+abbrev pub Holds : Case → Type 0
+Holds (reply s o) = listingOf s ≡ o
+
+abbrev pub AllHold : List Case → Type 0
+AllHold [] = Unit {0}
+AllHold (c ∷ cs) = Holds c × AllHold cs
+
+abbrev pub bench : List Case
+bench =
+    -- P1 input L
+    reply inputL (value listingL)
+    -- P2 L with 0xa0 one less: 17
+    ∷ reply (be64 entriesL 0xa0 0x100120fff) (refused 17 (0x100121000 ∷ []))
+    -- P3 L with MTT entry 0, or 24: 16
+    ∷ reply (be16 inputL 0x90 0) (refused 16 (9 ∷ []))
+    ∷ reply (be16 inputL 0x90 24) (refused 16 (9 ∷ []))
+    -- P4 0x4b=13: 12
+    ∷ reply (set inputL 0x4b 13) (refused 12 (13 ∷ []))
+    -- P5 ports 0, or 3: 13
+    ∷ reply (set inputL 0x37 0) (refused 13 (0 ∷ []))
+    ∷ reply (set inputL 0x37 3) (refused 13 (3 ∷ []))
+    -- P6 0x49=0x2c: 14; 0x2b goes on
+    ∷ reply (set inputL 0x49 0x2c) (refused 14 (0x2c ∷ []))
+    ∷ reply (set inputL 0x49 0x2b) (value listingL)
+    ∷ []
