@@ -13,6 +13,10 @@ use Rattle.reply.specs.declared.DevCap.{DevCap}
 use Rattle.reply.specs.declared.CapCheck.{CapCheck}
 use Rattle.reply.specs.declared.CapCheck.the-variants.{Good, Short, MinPage, Ports, Uar, UarArea}
 use Rattle.reply.specs.declared.Capability.{Capability}
+use Rattle.reply.specs.declared.FwInfo.{FwInfo}
+use Rattle.reply.specs.declared.FwCheck.the-variants as fw
+use Rattle.reply.specs.declared.FwReply.{FwReply}
+use Rattle.reply.specs.Replies.{fwOf, noFw, twoOrThree, queryFw, queryFwOf, fwHeld}
 use Rattle.reply.specs.Capability.{capability, capabilityOf, devCapOf, noCaps, refusedBy, refusedCaps, minPage, portsIn, uarField, uarArea, oneOrTwo, aboveSize}
 
 -- the tests, over what they say and what stands beside each
@@ -106,3 +110,23 @@ module _ (s : List ℕ) (bar : Size) (r : Capability) where
           good-answers h d ed e =
               let q = is-verdict s bar ∙ v-good _ _ _ _ _ (le-ltb _ _ long) (le-ltb _ _ (rw em at good-page)) (two ∙ not-false b good-ports) (le-ltb _ _ (rw ef at good-uar)) (over ∙ h) in
               (ap capability e ∙ ap value ed ∙ sym q, ap (λ (x : Capability). x .cap) e ∙ ed ∙ sym (ap (valueOr noCaps) q))
+
+-- The answers to QUERY_FW.
+module _ (s : List ℕ) (bar : ℕ) where
+  abbrev AnswersFw : FwReply → Type 0
+  AnswersFw r = (queryFw r ≡ queryFwOf s bar) × (r .info ≡ fwHeld s bar)
+
+  pub fw-short-answers : length s < 0x3d → (i : FwInfo) → i ≡ noFw → AnswersFw (record { check = fw.Short; info = i })
+  fw-short-answers h i e = rw (lt-ltb (length s) 0x3d h) (refl, e)
+
+  module _ (long : 0x3d ≤ length s) (i : FwInfo) (ei : i ≡ fwOf s bar) (b : Bool) (eb : b ≡ twoOrThree (i .rev)) where
+    rev-is : twoOrThree (be s 0x0a 2) ≡ b
+    rev-is = sym (eb ∙ ap (λ (x : FwInfo). twoOrThree (x .rev)) ei)
+
+    pub fw-revision-answers : not b ≡ true → AnswersFw (record { check = fw.Revision (i .rev); info = i })
+    fw-revision-answers h =
+        rw (le-ltb (length s) 0x3d long)
+        (rw (rev-is ∙ not-true b h) (ap (λ (x : FwInfo). refused 11 (x .rev ∷ [])) ei), ei)
+
+    pub fw-good-answers : not b ≡ false → AnswersFw (record { check = fw.Good; info = i })
+    fw-good-answers h = rw (le-ltb (length s) 0x3d long) (rw (rev-is ∙ not-false b h) (ap value ei), ei)

@@ -8,6 +8,8 @@ ghost use lib.ListN.{length};
 ghost use lib.Dec.{eqb};
 ghost use Rattle.fields.specs.Fields.{be};
 ghost use Rattle.fields.specs.Outcome.{valueOr, numberOf, pick};
+ghost use Rattle.reply.specs.Replies.{catasBar, fwOf, noFw, twoOrThree, queryFw, queryFwOf, fwHeld};
+ghost use Rattle.reply.specs.Replies.{speedOf, macOf, portOf, noPort, queryPort, queryPortOf, funcOf, queryFunc, queryFuncOf};
 ghost use Rattle.reply.specs.Capability.{capability, capabilityOf, devCapOf, entriesOf, noCaps, uarArea, aboveSize, oneOrTwo, refusedBy, refusedCaps};
 
 // The kinds of ICM table, by index, and what is fixed for each.
@@ -390,4 +392,244 @@ pub fn dev_cap(reply: &[u8], bar: Size) -> Capability
         check: CapCheck::Good,
         cap: decoded(reply, area),
     }
+}
+
+// What QUERY_FW says: the pages that the firmware asks for, its version, the revision of the command interface, and where the catastrophic error buffer is.
+pub struct FwInfo {
+    pub pages: u16,
+    pub major: u16,
+    pub subminor: u16,
+    pub minor: u16,
+    pub ppf: u8,
+    pub rev: u16,
+    pub log_max_cmds: u8,
+    pub catas_offset: u64,
+    pub catas_size: u32,
+    pub catas_bar: u8,
+}
+
+pub enum FwCheck {
+    Good,
+    Short,
+    Revision(u16),
+}
+
+// The fields, also where the revision is refused; all 0 where the reply is too short.
+pub struct FwReply {
+    pub check: FwCheck,
+    pub info: FwInfo,
+}
+
+impl FwInfo {
+    pub const BYTES: usize = 0x3d;
+
+    // The BAR register of the UAR area, whose index depends on the host.
+    pub const UAR_REG: u8 = 2;
+
+    pub fn none() -> Self
+        ensures { λ r. ⌜ r ≡ noFw ⌝ }
+    {
+        Self {
+            pages: 0,
+            major: 0,
+            subminor: 0,
+            minor: 0,
+            ppf: 0,
+            rev: 0,
+            log_max_cmds: 0,
+            catas_offset: 0,
+            catas_size: 0,
+            catas_bar: 0,
+        }
+    }
+}
+
+// The BAR of the catastrophic buffer: the register, or the index chosen for the UAR BAR where it is that register.
+fn catas_bar(register: u8, bar: u8) -> u8
+    ensures { λ r. ⌜ r ≡ catasBar register bar ⌝ }
+{
+    if register == FwInfo::UAR_REG {
+        return bar;
+    }
+    register
+}
+
+fn fw_info(reply: &[u8], bar: u8) -> FwInfo
+    requires { ⌜ 61 ≤ length (now reply) ⌝ }
+    ensures { λ r. ⌜ r ≡ fwOf (now (reply .entry)) bar ⌝ }
+{
+    FwInfo {
+        pages: be16(reply, 0x00),
+        major: be16(reply, 0x02),
+        subminor: be16(reply, 0x04),
+        minor: be16(reply, 0x06),
+        ppf: byte(reply, 0x09),
+        rev: be16(reply, 0x0a),
+        log_max_cmds: byte(reply, 0x0f),
+        catas_offset: known(reply, 0x30, 8),
+        catas_size: be32(reply, 0x38),
+        catas_bar: catas_bar(byte(reply, 0x3c) / 64 * 2, bar),
+    }
+}
+
+fn two_or_three(n: u16) -> bool
+    ensures { λ r. ⌜ r ≡ twoOrThree n ⌝ }
+{
+    n == 2 || n == 3
+}
+
+// The reply to QUERY_FW, where `bar` is the index chosen for the UAR BAR: 21, then 11.
+pub fn query_fw(reply: &[u8], bar: u8) -> FwReply
+    ensures said { λ r. ⌜ queryFw r ≡ queryFwOf (now (reply .entry)) bar ⌝ }
+    ensures held { λ r. ⌜ r .info ≡ fwHeld (now (reply .entry)) bar ⌝ }
+{
+    if reply.len() < FwInfo::BYTES {
+        return FwReply {
+            check: FwCheck::Short,
+            info: FwInfo::none(),
+        };
+    }
+    let info = fw_info(reply, bar);
+    let rev = info.rev;
+    if !two_or_three(rev) {
+        return FwReply {
+            check: FwCheck::Revision(rev),
+            info,
+        };
+    }
+    FwReply {
+        check: FwCheck::Good,
+        info,
+    }
+}
+
+// What QUERY_PORT says of one port.
+pub struct PortInfo {
+    pub num: u8,
+    pub link_up: bool,
+    // Supported types, suggested type, default sense.
+    pub b0: u8,
+    pub mtu_cap: u16,
+    pub log_macs: u8,
+    pub mac: [u8; 6],
+    pub autoneg: bool,
+    pub an_complete: bool,
+    // The code of the link's speed.
+    pub speed: u8,
+    // The transceiver's type and vendor, its wavelength and its code.
+    pub xcvr: u32,
+    pub wavelength: u16,
+    pub xcvr_code: u64,
+}
+
+// The port, or 21 where the reply is too short: then all is 0.
+pub struct PortReply {
+    pub short: bool,
+    pub info: PortInfo,
+}
+
+impl PortInfo {
+    pub const BYTES: usize = 0x28;
+
+    pub fn none() -> Self
+        ensures { λ r. ⌜ r ≡ noPort ⌝ }
+    {
+        Self {
+            num: 0,
+            link_up: false,
+            b0: 0,
+            mtu_cap: 0,
+            log_macs: 0,
+            mac: [0u8; 6],
+            autoneg: false,
+            an_complete: false,
+            speed: 0,
+            xcvr: 0,
+            wavelength: 0,
+            xcvr_code: 0,
+        }
+    }
+}
+
+fn mac(reply: &[u8]) -> [u8; 6]
+    requires { ⌜ 40 ≤ length (now reply) ⌝ }
+    ensures { λ r. ⌜ r ≡ macOf (now (reply .entry)) ⌝ }
+{
+    [
+        byte(reply, 0x12),
+        byte(reply, 0x13),
+        byte(reply, 0x14),
+        byte(reply, 0x15),
+        byte(reply, 0x16),
+        byte(reply, 0x17),
+    ]
+}
+
+fn port_info(reply: &[u8], num: u8) -> PortInfo
+    requires { ⌜ 40 ≤ length (now reply) ⌝ }
+    ensures { λ r. ⌜ r ≡ portOf (now (reply .entry)) num ⌝ }
+{
+    let b0 = byte(reply, 0x00);
+    let speed = byte(reply, 0x05);
+    PortInfo {
+        num,
+        link_up: b0 / 128 % 2 == 1,
+        b0,
+        mtu_cap: be16(reply, 0x02),
+        log_macs: byte(reply, 0x0a) % 16,
+        mac: mac(reply),
+        autoneg: byte(reply, 0x01) / 128 % 2 == 1,
+        an_complete: b0 / 64 % 2 == 1,
+        speed: speed % 16 + speed / 32 % 4 * 32,
+        xcvr: be32(reply, 0x18),
+        wavelength: be16(reply, 0x1c),
+        xcvr_code: known(reply, 0x20, 8),
+    }
+}
+
+// The reply to QUERY_PORT for port `num`.
+pub fn query_port(reply: &[u8], num: u8) -> PortReply
+    ensures said { λ r. ⌜ queryPort r ≡ queryPortOf (now (reply .entry)) num ⌝ }
+    ensures held { λ r. ⌜ r .info ≡ valueOr noPort (queryPortOf (now (reply .entry)) num) ⌝ }
+{
+    if reply.len() < PortInfo::BYTES {
+        return PortReply {
+            short: true,
+            info: PortInfo::none(),
+        };
+    }
+    PortReply {
+        short: false,
+        info: port_info(reply, num),
+    }
+}
+
+// What QUERY_FUNC says on a card with system EQs: it replaces three capability fields.
+pub struct FuncInfo {
+    pub rsvd_eqs: u16,
+    pub max_eqs: u16,
+    pub rsvd_uars: u8,
+}
+
+pub enum FuncReply {
+    Good(FuncInfo),
+    Short,
+}
+
+impl FuncInfo {
+    pub const BYTES: usize = 0x0c;
+}
+
+// The reply to QUERY_FUNC.
+pub fn query_func(reply: &[u8]) -> FuncReply
+    ensures { λ r. ⌜ queryFunc r ≡ queryFuncOf (now (reply .entry)) ⌝ }
+{
+    if reply.len() < FuncInfo::BYTES {
+        return FuncReply::Short;
+    }
+    FuncReply::Good(FuncInfo {
+        rsvd_eqs: be16(reply, 0x04),
+        max_eqs: be16(reply, 0x06),
+        rsvd_uars: byte(reply, 0x0b) % 16,
+    })
 }
