@@ -10,8 +10,7 @@ use lib.Arith.{lt-of-le-ne}
 use lib.Dec.{leb, eqb}
 use lib.Pow.{pow-mono, pow-lt}
 use Rattle.fields.specs.Outcome.{pick}
-use Rattle.layout.specs.Layout.{firstPow, pow2Of, isPow2}
-use Rattle.layout.specs.Good.{Pow}
+use Rattle.layout.specs.Layout.{firstPow, pow2Of, isPow2, Pow}
 
 -- one step of the search
 pub first-here : (n p x : ℕ) → 0 < n → x ≤ p → firstPow n p x ≡ p

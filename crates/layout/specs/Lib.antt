@@ -1,4 +1,3 @@
 pub mod Layout
 pub mod Counts
 pub mod Inner
-pub mod Good

@@ -13,12 +13,12 @@ use lib.Dec.{ltb, eqb}
 use lib.ListN.{length, getD, take, drop, take-append-drop, length-drop}
 use lib.Seq.{getD-drop, getD-take, length-take-le}
 use Rattle.fields.specs.Outcome.{pick}
 use Rattle.layout.specs.declared.Table.{Table}
 use Rattle.layout.specs.Layout.{noTable, tableOf, tablesFrom, spotOf, insertAt, sortInto, based, placeFrom, totalOf, tableIn}
 use Rattle.layout.specs.Inner.{All}
-use Rattle.layout.specs.Good.{Before, Ordered, Tiles}
+use Rattle.layout_laws.specs.Good.{Before, Ordered, Tiles}
 use Rattle.layout.proofs.Order.{all-map, all-take, all-drop, all-append, all-insert}
 use Rattle.layout.proofs.Sorting.{spot-le, length-insert}
 
 -- to go by whether two numbers are equal
 by-eq-at : (P : Type 0) (m n : ℕ) (b : Bool) → eqb m n ≡ b → (m ≡ n → P) → ((m ≡ n → ⊥) → P) → P

@@ -10,16 +10,17 @@ use borrow.Author.Tests.{eqb-true, eqb-false, not-true, leb-true, leb-false}
 use lib.Dec.{T, ltb, leb, eqb, lit≤, lit<, ltb→lt}
 use lib.ListN.{length, getD}
 use lib.Pow.{pow-mono, pow-lt}
 use Rattle.layout.specs.declared.Table.{Table}
 use Rattle.layout.specs.declared.Range.{Range}
 use Rattle.layout.specs.declared.Layout.{Layout}
 use Rattle.layout.specs.Layout.{pow2Of, tableOf, based, tableIn, pagesUp, wholeOf, quarterOf, rangesOf, layOut, layoutOf}
 use Rattle.layout.specs.Inner.{All}
-use Rattle.layout.specs.Good.{Multiple, Pow, Tiles, GoodLayout, Apart, Each, AllApart, GoodRange, Counted, GoodRanges}
+use Rattle.layout_laws.specs.Good.{Multiple, Tiles, GoodLayout, Apart, Each, AllApart, GoodRange, Counted, GoodRanges}
+use Rattle.layout.specs.Layout.{Pow}
 use Rattle.layout.proofs.Powers.{raised, raised-le, pow-is}
 use Rattle.layout.proofs.Placing.{all-find}
-use Rattle.layout.proofs.Rows.{by-eq, find-same, find-other}
-use Rattle.layout.proofs.Good.{pow-multiple, bytes-pow, add-multiple, pow-pos-of}
+use Rattle.layout_laws.proofs.Rows.{by-eq, find-same, find-other}
+use Rattle.layout_laws.proofs.Good.{pow-multiple, bytes-pow, add-multiple, pow-pos-of}
 
 -- a table that tiles an area lies within it
 tiles-in : (a b i : ℕ) (xs : List Table) → Tiles a b xs → 0 < tableIn i xs .bytes → (a ≤ tableIn i xs .base) × (tableIn i xs .base + tableIn i xs .bytes ≤ b)

@@ -16,16 +16,17 @@ use Rattle.bars.specs.declared.Size.{Size}
 use Rattle.reply.specs.declared.DevCap.{DevCap}
 use Rattle.reply.specs.Capability.{Bounds, capabilityOf, devCapOf}
 use Rattle.reply.proofs.Bounded.{decoded-bounds, accepted-is}
 use Rattle.layout.specs.declared.Layout.{Layout}
 use Rattle.layout.specs.Layout.{pow2Of, tableOf, tablesFrom, sortInto, rowsOf, totalOf, layOut}
 use Rattle.layout.specs.Counts.{baseSqpn, firstFree, firstFreeMtt, eqsOf, countsOf, profileOf}
-use Rattle.layout.specs.Good.{Pow, GoodLayout, GoodRanges, Counted}
+use Rattle.layout_laws.specs.Good.{GoodLayout, GoodRanges, Counted}
+use Rattle.layout.specs.Layout.{Pow}
 use Rattle.layout.proofs.Powers.{raised-le}
 use Rattle.layout.proofs.Bounds.{lines-lt}
-use Rattle.layout.proofs.Good.{Sized, accepted, layout-good, good, by-order, pow-pos-of}
+use Rattle.layout_laws.proofs.Good.{Sized, accepted, layout-good, good, by-order, pow-pos-of}
 use Rattle.layout.proofs.Placing.{total-placed}
-use Rattle.layout.proofs.Rows.{by-eq, total-sorted}
-use Rattle.layout.proofs.Mapped.{mapped}
+use Rattle.layout_laws.proofs.Rows.{by-eq, total-sorted}
+use Rattle.layout_laws.proofs.Mapped.{mapped}
 
 -- each of a list is at most b
 abbrev Most : ℕ → List ℕ → Type 0

@@ -5,18 +5,15 @@ use mathlib.Core.Logic.{_⊎_}
 use mathlib.Core.Path.{_≡_}
 use mathlib.Core.List.{List, [], _∷_}
 use lib.ListN.{length, getD}
 use Rattle.layout.specs.declared.Table.{Table}
 use Rattle.layout.specs.declared.Range.{Range}
 use Rattle.layout.specs.declared.Layout.{Layout}
 use Rattle.layout.specs.Layout.{tableIn, tableOf, based}
 use Rattle.layout.specs.Inner.{All}
 
--- n is a multiple of m; n is a power of two
+-- n is a multiple of m
 abbrev pub Multiple : (m n : ℕ) → Type 0
 Multiple m n = (k : ℕ) × (n ≡ k * m)
-
-abbrev pub Pow : ℕ → Type 0
-Pow n = (k : ℕ) × (n ≡ 2 ^ k)
 
 -- the tables stand one after the other from a to b, with no gap and no overlap
 abbrev pub Tiles : (a b : ℕ) → List Table → Type 0

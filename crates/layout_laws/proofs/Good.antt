@@ -11,15 +11,16 @@ use lib.ListN.{length, getD}
 use lib.Pow.{pow-lt, pow-mono, pow-add}
 use Rattle.fields.specs.Outcome.{Outcome, value, refused, pick}
 use Rattle.fields.proofs.Outcomes.{past, same-value}
 use Rattle.layout.specs.declared.Table.{Table}
 use Rattle.layout.specs.declared.Layout.{Layout}
 use Rattle.layout.specs.Layout.{pow2Of, isPow2, firstBad, tableOf, tablesFrom, sortInto, based, placeFrom, totalOf, rowsOf, tableIn, layOut, layoutOf}
 use Rattle.layout.specs.Inner.{All}
-use Rattle.layout.specs.Good.{Multiple, Pow, Ordered, Before, Tiles, GoodLayout}
+use Rattle.layout_laws.specs.Good.{Multiple, Ordered, Before, Tiles, GoodLayout}
+use Rattle.layout.specs.Layout.{Pow}
 use Rattle.layout.proofs.Powers.{raised, is-pow, pow-is}
 use Rattle.layout.proofs.Order.{all-map, all-sort}
 use Rattle.layout.proofs.Placing.{total-placed}
-use Rattle.layout.proofs.Rows.{before-le, tables-rising, sort-ordered, placed-ordered, placed-tiles, length-placed, length-sort, length-tables, find-sorted, find-placed, find-made}
+use Rattle.layout_laws.proofs.Rows.{before-le, tables-rising, sort-ordered, placed-ordered, placed-tiles, length-placed, length-sort, length-tables, find-sorted, find-placed, find-made}
 
 pub by-order : (P : Type 0) (i j : ℕ) (b : Bool) → leb i j ≡ b → (i ≤ j → P) → (j < i → P) → P
 by-order P i j true e f g = f (leb-true i j e)
