@@ -2,6 +2,7 @@
 use bars::Size;
 use fields::Order;
 use fields::Read64;
+ghost use mathlib.Core.Bool.{_&&_};
 ghost use mathlib.Core.Path.{_≡_};
 ghost use Prim.Native.Nat.{_+_, _*_, _/_, _%_, _^_, _<_, _≤_, max};
 ghost use lib.ListN.{length};
@@ -10,7 +11,7 @@ ghost use Rattle.fields.specs.Fields.{be};
 ghost use Rattle.fields.specs.Outcome.{valueOr, numberOf, pick};
 ghost use Rattle.reply.specs.Replies.{catasBar, fwOf, noFw, twoOrThree, queryFw, queryFwOf, fwHeld};
 ghost use Rattle.reply.specs.Replies.{speedOf, macOf, portOf, noPort, queryPort, queryPortOf, funcOf, queryFunc, queryFuncOf};
-ghost use Rattle.reply.specs.Capability.{capability, capabilityOf, devCapOf, entriesOf, noCaps, uarArea, aboveSize, oneOrTwo, refusedBy, refusedCaps};
+ghost use Rattle.reply.specs.Capability.{capability, capabilityOf, devCapOf, entriesOf, noCaps, uarArea, aboveSize, oneOrTwo, refusedBy, refusedCaps, bit};
 
 // The kinds of ICM table, by index, and what is fixed for each.
 pub struct Kind {
@@ -173,7 +174,33 @@ pub struct Capability {
     pub cap: DevCap,
 }
 
+fn has_bit(flags: u64, number: u8) -> bool
+    ensures { λ r. ⌜ r ≡ bit number flags ⌝ }
+{
+    if 63 < number {
+        return false;
+    }
+    (flags >> number) % 2 == 1
+}
+
 impl DevCap {
+    // Whether the card has the capability of this number.
+    pub fn flag(self, number: u8) -> bool
+        ensures { λ r. ⌜ r ≡ bit number (self .flags) ⌝ }
+    {
+        has_bit(self.flags, number)
+    }
+
+    // B0 steering: both VEP steering capabilities.
+    pub fn b0(self) -> bool
+        ensures { λ r. ⌜ r ≡ bit 41 (self .flags) && bit 42 (self .flags) ⌝ }
+    {
+        if self.flag(41) {
+            return self.flag(42);
+        }
+        false
+    }
+
     pub const BYTES: usize = 168;
 
     pub const MAX_LOG_MIN_PAGE: u8 = 12;
