@@ -1,12 +1,18 @@
 -- The bench values of document 01, as one table. The theorem `bench-holds` of proofs/ says that the definitions give each of them.
-use Prim.Native.Nat.{ℕ}
+use Prim.Native.Nat.{ℕ, _+_, _*_}
 use mathlib.Core.List.{List, [], _∷_}
 use mathlib.Core.Path.{_≡_}
-use lib.ListN.{set, replicate}
+use lib.ListN.{length, set, replicate}
 use Rattle.fields.specs.Fields.{putAt}
 use Rattle.fields.specs.Outcome.{Outcome, value, refused}
 use Rattle.fields.specs.declared.Order.the-variants.{Big}
 use Rattle.bars.specs.declared.Size.the-variants.{Unknown}
+use Rattle.bars.specs.Bars.{baseAt, candidatesAt}
+use Rattle.dma.specs.declared.Virt.{Virt}
+use Rattle.dma.specs.declared.Virt.the-variants.{Absent, At}
+use Rattle.dma.specs.declared.Block.{Block}
+use Rattle.dma.specs.Blocks.{blocksOf}
+use Rattle.dma.specs.Pages.{table, mailboxes}
 use Rattle.reply.specs.declared.DevCap.{DevCap}
 use Rattle.reply.specs.Capability.{capabilityOf}
 use Rattle.layout.specs.declared.Table.{Table}
@@ -75,12 +81,20 @@ listingL =
       total = 0x100121000;
     }
 
--- a bench value: a reply with what its listing comes to
+-- a bench value: a reply with what its listing comes to; a range of `size` bytes with its blocks and the number of mailboxes that carry them; BAR dwords
+-- and a register with its base and its two candidates
 pub data Case : Type 0 where
   reply : List ℕ → Outcome Listing → Case
+  blocks : Virt → (phys size : ℕ) → List Block → (boxes : ℕ) → Case
+  bar : (regs : List ℕ) → (reg base first second : ℕ) → Case
 
 abbrev pub Holds : Case → Type 0
 Holds (reply s o) = listingOf s ≡ o
+Holds (blocks v p n bs m) = (blocksOf 63 v p n ≡ bs) × (length (mailboxes 256 bs) ≡ m)
+Holds (bar regs reg b i j) = (baseAt regs reg ≡ value b) × (candidatesAt regs reg ≡ value (i, j))
+
+abbrev block : (virt phys log : ℕ) → Block
+block v p e = record { virt = v; phys = p; log = e }
 
 abbrev pub AllHold : List Case → Type 0
 AllHold [] = Unit {0}
@@ -103,4 +117,12 @@ bench =
     -- P6 0x49=0x2c: 14; 0x2b goes on
     ∷ reply (set inputL 0x49 0x2c) (refused 14 (0x2c ∷ []))
     ∷ reply (set inputL 0x49 0x2b) (value listingL)
+    -- P7 blocks of p 0x3000, size 0x5000, no v: 0x3000 exponent 12, 0x4000 exponent 14
+    ∷ blocks Absent 0x3000 0x5000 (block 0 0x3000 12 ∷ block 0 0x4000 14 ∷ []) 1
+    -- P8 v 0x1000, p 0x4000, 257 pages: 257 single pages, two mailboxes
+    ∷ blocks (At 0x1000) 0x4000 (257 * 4096) (table (λ k. block (0x1000 + k * 4096) (0x4000 + k * 4096) 12) 0 257) 2
+    -- P9 size 0: none
+    ∷ blocks Absent 0 0 [] 0
+    -- P10 BARs 0xf0000004, 0, 0xe000000c, 0, register 2: base 0xe0000000, candidates 2 and 1
+    ∷ bar (0xf0000004 ∷ 0 ∷ 0xe000000c ∷ 0 ∷ 0 ∷ 0 ∷ []) 2 0xe0000000 2 1
     ∷ []

@@ -144,3 +144,7 @@ field-value o s off w v e h n = let f = e ∙ field-there o s off w h n in cc
 
 pub field-never-short : (o : Order) (s : List ℕ) (off w : ℕ) → refused 21 [] ≡ pick (leb w 8) (fieldAt o s off w) (refused 21 []) → off + w ≤ length s → w ≤ 8 → ⊥
 field-never-short o s off w e h n = let f = e ∙ field-there o s off w h n in let z : _≡_ {A = ℕ} 0 1 = cc in omega arith
+
+-- where the field lies within the bytes, it is written
+pub written-is : (o : Order) (s : List ℕ) (off w v : ℕ) → off + w ≤ length s → writtenAt o s off w v ≡ putAt o s off w v
+written-is o s off w v h = rw (le-leb (off + w) (length s) h)

@@ -3,7 +3,7 @@
 ghost use mathlib.Core.Path.{_≡_};
 ghost use Prim.Native.Nat.{_+_, _<_, _≤_, _^_};
 ghost use mathlib.Core.List.{[]};
-ghost use lib.ListN.{length};
+ghost use lib.ListN.{length, replicate};
 ghost use lib.Dec.{leb};
 ghost use Rattle.fields.specs.Outcome.{pick, refused};
 ghost use Rattle.fields.specs.Fields.{placeOf, numberAt, putAt, fits, fieldAt, writeAt, writtenAt};
@@ -220,4 +220,15 @@ pub fn set_le64(s: &mut [u8], off: usize, v: u64) -> Written
     ensures { λ r. ⌜ now (s .exit) ≡ writtenAt Little (now (s .entry)) off 8 v ⌝ }
 {
     set_field(s, Order::Little, off, 8, v)
+}
+
+// Every byte 0.
+pub fn zero(s: &mut [u8])
+    ensures { λ r. ⌜ now (s .exit) ≡ replicate (length (now (s .entry))) 0 ⌝ }
+{
+    let mut i: usize = 0;
+    while i < s.len() {
+        s[i] = 0;
+        i = i + 1;
+    }
 }

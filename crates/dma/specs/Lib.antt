@@ -1,0 +1,4 @@
+pub mod Buffers
+pub mod Blocks
+pub mod Pages
+pub mod PageList
