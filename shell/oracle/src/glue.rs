@@ -94,9 +94,8 @@ impl Firmware for Context {
 
     fn free_pool(&self, memory: NonNull<u8>) -> Status {
         let mut lists = self.lists.borrow_mut();
-        let at =
-            lists.iter().position(|(_, l)| ptr::eq(l.as_ptr(), memory.as_ptr())).expect("a list that was given out");
-        let (index, _) = lists.remove(at);
+        let at = lists.iter().position(|(_, l)| ptr::eq(l.as_ptr(), memory.as_ptr()));
+        let (index, _) = lists.remove(at.expect("a list that was given out"));
         self.bus.borrow_mut().free_pool(index);
         Status::SUCCESS
     }
@@ -148,7 +147,8 @@ fn panic_text(payload: &(dyn Any + Send)) -> String {
 }
 
 /// The protocol's table. Its functions answer from the context of the call
-/// that is running; they may not panic, as no panic crosses "efiapi".
+/// that is running. Arguments that pci.rs cannot pass end the process, since
+/// no panic crosses "efiapi".
 pub fn pci_io() -> PciIo {
     table(Functions {
         mem_read,

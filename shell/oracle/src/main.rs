@@ -8,7 +8,7 @@ use oracle::run;
 use world::calls::{self, Call};
 use world::plan::Plan;
 use world::registers::INIT_HCA;
-use world::results::Outcome;
+use world::results::{Given, Outcome};
 use world::trace::{hex, Trace};
 
 const USAGE: &str = "\
@@ -22,7 +22,7 @@ oracle choose D0 .. D5 REG A0 .. A5
                                    the index chosen; an answer is none or BASE:LENGTH
 oracle open SEED [full]            an opening: trace, then result
 oracle close SEED [full]           an opening and a close
-oracle session SEED [full]         the list of calls of that seed
+oracle session SEED [full]         the list of calls of that seed, up to a failed opening
 
 REPLY is bytes in hexadecimal, read from standard input if left out, and filled
 up with zeros. Other numbers are decimal, or hexadecimal after 0x. SEED may be
@@ -180,13 +180,17 @@ fn session(what: &str, seed: &str, form: fn(&Trace) -> String) -> Result<String,
     let mut text = String::new();
     for call in &calls {
         let given = run::call(&mut driver, call);
+        let over = *call == Call::Open && given.is_err();
         let trace = world.borrow_mut().take();
         text += &format!("call {call:?}\n{}result {}\n", form(&trace), result(given));
+        if over {
+            break;
+        }
     }
     Ok(text)
 }
 
-fn result(given: Outcome<run::Given>) -> String {
+fn result(given: Outcome<Given>) -> String {
     match given {
         Ok(given) => format!("{given:?}"),
         Err(stop) => stop.to_string(),

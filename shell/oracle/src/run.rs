@@ -11,7 +11,7 @@ use world::bus::Bus;
 use world::calls::{Call, Command, Form};
 use world::plan::Plan;
 use world::results::{
-    Buffer, Capabilities, Closing, Done, Layout, Opened, Outcome, Port, Refusal, State, Stop, Table, Undo,
+    Buffer, Capabilities, Closing, Done, Given, Layout, Opened, Outcome, Port, Refusal, State, Stop, Table, Undo,
 };
 use world::traced::Traced;
 use world::World;
@@ -197,16 +197,6 @@ pub fn in_out(d: &mut Driver, op: u16, op_mod: u8, in_mod: u32, input: &[u8]) ->
         Ok(outbox(hca))
     })?;
     Ok(Done { immediate: None, outbox: Some(outbox), us })
-}
-
-/// What a call of a list gave.
-#[derive(Clone, PartialEq, Eq, Debug)]
-pub enum Given {
-    Opened(Box<Opened>),
-    Done(Done),
-    Lent(Buffer),
-    Closed(Closing),
-    Nothing,
 }
 
 /// One call of a list.

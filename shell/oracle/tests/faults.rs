@@ -215,6 +215,17 @@ fn assert_refused<T: std::fmt::Debug>(result: &Outcome<T>, number: u32, closing:
     }
 }
 
+/// A failed owner read is no claim, so the owner is not released.
+#[test]
+fn an_owner_read_that_failed_but_was_taken_leaves_the_card_owned() {
+    let owner = plan(|p| p.faults.push(Fault { call: 5, taken: true }));
+    let (world, mut driver, result, trace) = common::open(owner);
+    assert_refused(&result, 2, Closing::Clean);
+    assert_eq!(lines(&trace)[5..], ["regr 0 8069c -> fail", "attr set 7 -> 0"]);
+    assert_refused(&run::open(&mut driver), 2, Closing::Clean);
+    assert!(lines(&take(&world)).contains(&"regr 0 8069c -> 01000000".to_string()));
+}
+
 #[test]
 fn an_address_that_is_no_page_multiple_is_told() {
     let odd = world::plan::OddMap { address: Some(0x1234), bytes: None };

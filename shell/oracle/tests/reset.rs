@@ -78,6 +78,25 @@ fn config_space_is_put_back() {
     assert_eq!(writes.last().unwrap(), "cfgw32 04 00100406 -> ok");
 }
 
+#[test]
+fn a_close_after_a_quiesce_puts_the_cleared_bus_master_back() {
+    let (world, mut driver) = opened(Plan::obedient());
+    run::quiesce(&mut driver).unwrap();
+    take(&world);
+    assert_eq!(run::close(&mut driver), Ok(Closing::Reset));
+    assert_eq!(config_writes(&take(&world)).last().unwrap(), "cfgw32 04 00100402 -> ok");
+}
+
+#[test]
+fn a_card_that_is_away_is_walked_at_0xfc() {
+    let (world, mut driver, result, _) = open(plan(|p| p.card.absent = vec![5_000]));
+    assert_eq!(result, failed(3, &[], Closing::Clean));
+    let _ = run::open(&mut driver);
+    let trace = take(&world);
+    let walked = trace.events().filter(|e| matches!(e, Event::ConfigRead { bits: 16, offset: 0xfc, .. })).count();
+    assert_eq!(walked, 48);
+}
+
 fn chain(capabilities: &[(u8, u8, u8)]) -> Plan {
     plan(|p| {
         p.config.chain = capabilities.iter().map(|&(at, id, next)| Capability { at, id, next }).collect();
@@ -102,6 +121,7 @@ fn capability_walk() {
     assert_eq!(capability_reads(chain(&[(0x40, 0x05, 0)])), [0x40]);
     assert_eq!(capability_reads(chain(&[(0x40, 0x05, 0x63), (0x60, 0x10, 0)])), [0x40, 0x60, 0x68, 0x70]);
     assert_eq!(capability_reads(chain(&[(0xfc, 0x10, 0)])), [0xfc, 0x104, 0x10c]);
+    assert_eq!(capability_reads(chain(&[(0x2c, 0x10, 0)])), [0x2c, 0x34, 0x3c], "no lower bound at 0x40");
     assert_eq!(capability_reads(chain(&[(0x40, 0x05, 0x60), (0x60, 0x05, 0x40)])), [0x40, 0x60].repeat(24));
     let long: Vec<(u8, u8, u8)> = (0x40..=0xfc).step_by(4).map(|at: u8| (at, 0x05, at.wrapping_add(4))).collect();
     assert_eq!(capability_reads(chain(&long)), (0x40..=0xfc).step_by(4).collect::<Vec<u32>>());

@@ -2,11 +2,11 @@
 
 use std::collections::BTreeSet;
 
-use oracle::run::{self, Driver, Given, SharedWorld};
+use oracle::run::{self, Driver, SharedWorld};
 use world::bus::Resource;
 use world::calls::{self, Call};
 use world::plan::Plan;
-use world::results::{Closing, Outcome, Stop};
+use world::results::{Closing, Given, Outcome, Stop};
 use world::trace::{Event, Trace};
 
 /// How many seeds are run: 3,000, or what the environment variable SEEDS says.

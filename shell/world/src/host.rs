@@ -6,7 +6,7 @@ use crate::plan::{Addresses, HostPlan};
 use crate::prng::Prng;
 use crate::PAGE;
 
-/// A run of device addresses, at least one byte; it may end at 2^64.
+/// A run of device addresses; it may end at 2^64.
 #[derive(Clone, Copy, PartialEq, Eq, Debug)]
 pub struct Span {
     pub start: u64,
@@ -15,7 +15,7 @@ pub struct Span {
 
 impl Span {
     fn last(self) -> u64 {
-        self.start.saturating_add(self.bytes - 1)
+        self.start.saturating_add(self.bytes.saturating_sub(1))
     }
 
     pub fn meets(self, other: Span) -> bool {

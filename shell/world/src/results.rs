@@ -163,6 +163,16 @@ pub struct Buffer {
     pub pages: u64,
 }
 
+/// What one call of a list gave.
+#[derive(Clone, PartialEq, Eq, Debug)]
+pub enum Given {
+    Opened(Box<Opened>),
+    Done(Done),
+    Lent(Buffer),
+    Closed(Closing),
+    Nothing,
+}
+
 /// A command that takes an object back.
 #[derive(Clone, Copy, PartialEq, Eq, Debug)]
 pub struct Undo {

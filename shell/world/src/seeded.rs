@@ -210,8 +210,8 @@ fn bars(r: &mut Prng) -> [u32; 6] {
     }
 }
 
-/// Capabilities at shuffled places: none, a chain with PCI Express somewhere,
-/// a chain without it, or a loop.
+/// Capabilities at shuffled places: none, a chain that ends in PCI Express, a
+/// chain without it, or a loop.
 fn chain(r: &mut Prng) -> Vec<Capability> {
     let mut places: Vec<u8> = (0x40..=0xfc).step_by(4).collect();
     for i in (1..places.len()).rev() {
