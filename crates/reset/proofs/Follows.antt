@@ -52,27 +52,37 @@ module _ (ds : List ℕ) (k : Control) where
   unfolding save semaphore vendor restore
   at-phase (p.Saving zero) = (refl, dword-case resetAsks resetStep resetScript _ (λ r. to (state (p.Saving zero) ds k) (savingMove zero r)) _ (λ x. refl) refl refl)
   at-phase (p.Saving (suc n)) = (refl, dword-case resetAsks resetStep resetScript _ (λ r. to (state (p.Saving (suc n)) ds k) (savingMove (suc n) r)) _ (λ x. refl) refl refl)
-  at-phase p.Pointer =
-      (refl, dword-case resetAsks resetStep resetScript _ (λ r. to (state p.Pointer ds k) (pointerMove r)) _
-      (λ x. walk-left (state p.Pointer ds k) 48 (pointer (x % 0x100))) refl refl)
-  at-phase (p.Header n at) =
-      (refl, word-case resetAsks resetStep resetScript _ (λ r. to (state (p.Header n at) ds k) (headerMove n at r)) _
-      (λ x. either-left (state (p.Header n at) ds k) (eqb (x % 0x100) 0x10) _ _ _ _ refl (walk-left (state (p.Header n at) ds k) n (pointer (x / 0x100)))) refl refl)
+  at-phase p.Pointer = (
+    refl,
+    dword-case resetAsks resetStep resetScript _ (λ r. to (state p.Pointer ds k) (pointerMove r)) _
+        (λ x. walk-left (state p.Pointer ds k) 48 (pointer (x % 0x100))) refl refl,
+  )
+  at-phase (p.Header n at) = (
+    refl,
+    word-case resetAsks resetStep resetScript _ (λ r. to (state (p.Header n at) ds k) (headerMove n at r)) _
+        (λ x. either-left (state (p.Header n at) ds k) (eqb (x % 0x100) 0x10) _ _ _ _ refl (walk-left (state (p.Header n at) ds k) n (pointer (x / 0x100)))) refl refl,
+  )
   at-phase (p.Device at) = (refl, word-case resetAsks resetStep resetScript _ (λ r. to (state (p.Device at) ds k) (deviceMove at r)) _ (λ x. refl) refl refl)
   at-phase (p.Link at device) =
       (refl, word-case resetAsks resetStep resetScript _ (λ r. to (state (p.Link at device) ds k) (linkMove at device r)) _ (λ x. refl) refl refl)
-  at-phase (p.Semaphore zero) =
-      (refl, register-case resetAsks resetStep resetScript _ (λ r. to (state (p.Semaphore zero) ds k) (semaphoreMove zero r)) _
-      (λ x. either-left (state (p.Semaphore zero) ds k) (eqb (swapOf x) 0) _ _ _ _ refl refl) refl refl)
-  at-phase (p.Semaphore (suc n)) =
-      (refl, register-case resetAsks resetStep resetScript _ (λ r. to (state (p.Semaphore (suc n)) ds k) (semaphoreMove (suc n) r)) _
-      (λ x. either-left (state (p.Semaphore (suc n)) ds k) (eqb (swapOf x) 0) _ _ _ _ refl refl) refl refl)
+  at-phase (p.Semaphore zero) = (
+    refl,
+    register-case resetAsks resetStep resetScript _ (λ r. to (state (p.Semaphore zero) ds k) (semaphoreMove zero r)) _
+        (λ x. either-left (state (p.Semaphore zero) ds k) (eqb (swapOf x) 0) _ _ _ _ refl refl) refl refl,
+  )
+  at-phase (p.Semaphore (suc n)) = (
+    refl,
+    register-case resetAsks resetStep resetScript _ (λ r. to (state (p.Semaphore (suc n)) ds k) (semaphoreMove (suc n) r)) _
+        (λ x. either-left (state (p.Semaphore (suc n)) ds k) (eqb (swapOf x) 0) _ _ _ _ refl refl) refl refl,
+  )
   at-phase (p.Hold n) = (refl, told-case resetAsks resetStep resetScript _ (λ r. to (state (p.Hold n) ds k) (holdMove n r)) _ refl refl)
   at-phase p.Writing = (refl, done-case resetAsks resetStep resetScript _ (λ r. to (state p.Writing ds k) (writeMove r)) _ refl refl refl)
   at-phase p.Settle = (refl, told-case resetAsks resetStep resetScript _ (λ r. to (state p.Settle ds k) (settleMove r)) _ refl refl)
-  at-phase (p.Vendor n) =
-      (refl, word-case resetAsks resetStep resetScript _ (λ r. to (state (p.Vendor n) ds k) (vendorMove n k r)) _
-      (λ x. either-left (state (p.Vendor n) ds k) (not (eqb x 0xffff)) _ _ _ _ (restoring-left (state (p.Vendor n) ds k) k refl) refl) refl refl)
+  at-phase (p.Vendor n) = (
+    refl,
+    word-case resetAsks resetStep resetScript _ (λ r. to (state (p.Vendor n) ds k) (vendorMove n k r)) _
+        (λ x. either-left (state (p.Vendor n) ds k) (not (eqb x 0xffff)) _ _ _ _ (restoring-left (state (p.Vendor n) ds k) k refl) refl) refl refl,
+  )
   at-phase (p.Gone zero) = (refl, told-case resetAsks resetStep resetScript _ (λ r. to (state (p.Gone zero) ds k) (goneMove zero r)) _ refl refl)
   at-phase (p.Gone (suc n)) = (refl, told-case resetAsks resetStep resetScript _ (λ r. to (state (p.Gone (suc n)) ds k) (goneMove (suc n) r)) _ refl refl)
   at-phase (p.BackDevice at device link) =

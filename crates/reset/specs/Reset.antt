@@ -5,7 +5,7 @@ use mathlib.Core.List.{List, [], _∷_}
 use mathlib.Core.Option.{Option, some, none}
 use lib.ListN.{getD, set, replicate}
 use lib.Dec.{eqb, ltb}
-use Rattle.fields.specs.Outcome.{Outcome, value, refused, pick}
+use Rattle.fields.specs.Outcome.{Outcome, value, refused, numberOf, pick}
 use Rattle.pci.specs.Script.{Script, ret, ask, Bus, good, failed, configRead16, configRead32, configWrite16, configWrite32, read, write, stall}
 use Rattle.reset.specs.declared.ResetEnd.{ResetEnd}
 use Rattle.reset.specs.declared.ResetEnd.the-variants as e
@@ -19,6 +19,10 @@ ended e.Save = refused 3 []
 ended (e.Semaphore v) = refused 3 []
 ended e.Write = refused 3 []
 ended e.Vendor = refused 3 []
+
+-- no refusal
+abbrev pub isGood : ResetEnd → Bool
+isGood r = eqb (numberOf (ended r)) 0
 
 -- go on with what the call gave; where the call failed, `bad` is left
 abbrev pub either : {A : Type 0} → Script ResetEnd → (A → Script ResetEnd) → Bus A → Script ResetEnd
