@@ -41,9 +41,11 @@ outcome-left (refused n vs) x y p q g h = h
 at-make : (n : ℕ) (x : MakePhase) → Follows makeAsks makeStep makeScript (record { bytes = n; phase = x }) (makeScript (record { bytes = n; phase = x }))
 at-make n p.Allocate =
     (refl, handle-case makeAsks makeStep makeScript _ (λ r. makeNext (allocated (record { bytes = n; phase = p.Allocate }) r)) _ (λ v. refl) refl refl)
-at-make n (p.Map handle) =
-    (refl, map-case makeAsks makeStep makeScript _ (λ r. makeNext (mapStep (record { bytes = n; phase = p.Map handle }) handle r)) _
-    (λ v b. outcome-left (acceptAt v (n / 4096)) _ _ _ _ (λ u. pick-left (eqb b (n / 4096 * 4096)) _ _ _ _ refl refl) refl) refl refl)
+at-make n (p.Map handle) = (
+  refl,
+  map-case makeAsks makeStep makeScript _ (λ r. makeNext (mapStep (record { bytes = n; phase = p.Map handle }) handle r)) _
+      (λ v b. outcome-left (acceptAt v (n / 4096)) _ _ _ _ (λ u. pick-left (eqb b (n / 4096 * 4096)) _ _ _ _ refl refl) refl) refl refl,
+)
 at-make n (p.Unmap handle x) =
     (refl, done-case makeAsks makeStep makeScript _ (λ r. makeNext (unmapped (record { bytes = n; phase = p.Unmap handle x }) handle x r)) _ refl refl refl)
 at-make n (p.Free handle x) =
