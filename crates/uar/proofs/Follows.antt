@@ -87,16 +87,22 @@ module _ (ds : List ℕ) (base : ℕ) (x y : Candidate) where
   second-left r = judged-left (at k.Second) (hearsSecond (choice base x y k.Second) r)
 
   at-choice : (a : Asking) → m.Follows barAsks barStep barScript (at a) (choiceScript (choice base x y a) a)
-  at-choice k.First =
-      (refl, list-case barAsks barStep barScript _ (λ bytes r. to (at k.First) (choiceMove (choice base x y k.First) bytes r)) _
-      (λ bytes. first-left (rangeFrom (resourceAt bytes))) (λ bytes. first-left b.NoAnswer) (λ bytes. refl))
-  at-choice k.Second =
-      (refl, list-case barAsks barStep barScript _ (λ bytes r. to (at k.Second) (choiceMove (choice base x y k.Second) bytes r)) _
-      (λ bytes. second-left (rangeFrom (resourceAt bytes))) (λ bytes. second-left b.NoAnswer) (λ bytes. refl))
-  at-choice (k.Other i) =
-      (refl, list-case barAsks barStep barScript _ (λ bytes r. to (at (k.Other i)) (choiceMove (choice base x y (k.Other i)) bytes r)) _
-      (λ bytes. pick-left (at (k.Other i)) (hasBase base (rangeFrom (resourceAt bytes))) _ _ _ _ refl (onward-left (at (k.Other i)) (choice base x y (k.Other i)) (suc i)))
-      (λ bytes. onward-left (at (k.Other i)) (choice base x y (k.Other i)) (suc i)) (λ bytes. refl))
+  at-choice k.First = (
+    refl,
+    list-case barAsks barStep barScript _ (λ bytes r. to (at k.First) (choiceMove (choice base x y k.First) bytes r)) _
+        (λ bytes. first-left (rangeFrom (resourceAt bytes))) (λ bytes. first-left b.NoAnswer) (λ bytes. refl),
+  )
+  at-choice k.Second = (
+    refl,
+    list-case barAsks barStep barScript _ (λ bytes r. to (at k.Second) (choiceMove (choice base x y k.Second) bytes r)) _
+        (λ bytes. second-left (rangeFrom (resourceAt bytes))) (λ bytes. second-left b.NoAnswer) (λ bytes. refl),
+  )
+  at-choice (k.Other i) = (
+    refl,
+    list-case barAsks barStep barScript _ (λ bytes r. to (at (k.Other i)) (choiceMove (choice base x y (k.Other i)) bytes r)) _
+        (λ bytes. pick-left (at (k.Other i)) (hasBase base (rangeFrom (resourceAt bytes))) _ _ _ _ refl (onward-left (at (k.Other i)) (choice base x y (k.Other i)) (suc i)))
+        (λ bytes. onward-left (at (k.Other i)) (choice base x y (k.Other i)) (suc i)) (λ bytes. refl),
+  )
 
 at-phase : (ds : List ℕ) (f : BarPhase) → m.Follows barAsks barStep barScript (state f ds) (barScript (state f ds))
 unfolding reading
