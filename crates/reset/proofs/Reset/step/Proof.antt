@@ -1,0 +1,14 @@
+use borrow.Author.Needs.{needs}
+use Rattle.reset.proofs.Reset.step.Statement.{statement}
+use Rattle.reset.proofs.Reset.step.Tie as tie
+
+returns : tie.Need-returns
+returns c = simp (c .before .moves .ensures, c .moved .ensures)
+
+pub step-spec : {M : Type 1} → statement M
+step-spec =
+    tie.close
+    (tie.spec
+    (λ c κs. search needs)
+    (λ c κs. search needs)
+    returns)

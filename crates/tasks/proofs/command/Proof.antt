@@ -1,0 +1,24 @@
+use borrow.Author.Needs.{needs}
+use Rattle.tasks.proofs.command.Statement.{statement}
+use Rattle.tasks.proofs.command.Tie as tie
+
+returns : tie.Need-returns
+returns c = simp (c .before .before .r .given .1, c .no-intx .ensures)
+
+returns-2 : tie.Need-returns-2
+returns-2 c = simp (c .enum-told .given .1)
+
+returns-3 : tie.Need-returns-3
+returns-3 c = simp (c .enum-told2 .given .1)
+
+pub command-spec : {M : Type 1} → statement M
+command-spec =
+    tie.close
+    (tie.spec
+    (λ c. search needs)
+    (λ c κs. search needs)
+    (λ c. search needs)
+    (λ c. search needs)
+    returns
+    returns-2
+    returns-3)

@@ -1,0 +1,20 @@
+use borrow.Author.Needs.{needs}
+use Rattle.uar.proofs.read.Statement.{statement}
+use Rattle.uar.proofs.read.Tie as tie
+
+returns : tie.Need-returns
+returns c = simp (c .before .r .given .1)
+
+returns-2 : tie.Need-returns-2
+returns-2 c = simp (c .enum-told .given .1)
+
+pub read-spec : {M : Type 1} → statement M
+read-spec =
+    tie.close
+    (tie.spec
+    (λ c. search needs)
+    (λ c. search needs)
+    (λ c. search needs)
+    returns
+    returns-2
+    (λ c. search needs))

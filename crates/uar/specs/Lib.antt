@@ -1,0 +1,2 @@
+pub mod Uar
+pub mod Steps
