@@ -36,7 +36,7 @@ waited-more n = more (ltb n 1000)
     more true = omega arith
     more false = omega arith
 
-waited-mono : (n d : ℕ) → waitedOf n ≤ waitedOf (n + d)
+pub waited-mono : (n d : ℕ) → waitedOf n ≤ waitedOf (n + d)
 waited-mono n zero = rw (add-zero n) (omega arith)
 waited-mono n (suc d) = rw (add-suc n d) (omega (arith, waited-mono n d, waited-more (n + d)))
 

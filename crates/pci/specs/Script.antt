@@ -97,46 +97,46 @@ shown (free h n) = q.Free h n
 shown (fence i) = q.Fence
 
 -- an answer as a reply to a question: none where its kind is wrong, which is 20. The bytes are those lent for a resource list.
-abbrev asWord : WordReply → Option (Bus ℕ)
+abbrev pub asWord : WordReply → Option (Bus ℕ)
 asWord (w.Got v) = some (good v)
 asWord w.Failed = some failed
 asWord w.Wrong = none
 
-abbrev asDword : DwordReply → Option (Bus ℕ)
+abbrev pub asDword : DwordReply → Option (Bus ℕ)
 asDword (d.Got v) = some (good v)
 asDword d.Failed = some failed
 asDword d.Wrong = none
 
-abbrev asRegister : DwordReply → Option (Bus ℕ)
+abbrev pub asRegister : DwordReply → Option (Bus ℕ)
 asRegister (d.Got v) = some (good (swapOf v))
 asRegister d.Failed = some failed
 asRegister d.Wrong = none
 
-abbrev asQword : QwordReply → Option (Bus ℕ)
+abbrev pub asQword : QwordReply → Option (Bus ℕ)
 asQword (x.Got v) = some (good v)
 asQword x.Failed = some failed
 asQword x.Wrong = none
 
-abbrev asDone : DoneReply → Option (Bus (Unit {0}))
+abbrev pub asDone : DoneReply → Option (Bus (Unit {0}))
 asDone o.Done = some (good tt)
 asDone o.Failed = some failed
 asDone o.Wrong = none
 
-abbrev asTold : ToldReply → Option (Unit {0})
+abbrev pub asTold : ToldReply → Option (Unit {0})
 asTold t.Told = some tt
 asTold t.Wrong = none
 
-abbrev asHandle : HandleReply → Option (Bus ℕ)
+abbrev pub asHandle : HandleReply → Option (Bus ℕ)
 asHandle (h.Got v) = some (good v)
 asHandle h.Failed = some failed
 asHandle h.Wrong = none
 
-abbrev asSpot : MapReply → Option (Bus Spot)
+abbrev pub asSpot : MapReply → Option (Bus Spot)
 asSpot (m.Got a n) = some (good (record { address = a; bytes = n }))
 asSpot m.Failed = some failed
 asSpot m.Wrong = none
 
-abbrev asList : List ℕ → ListReply → Option (Bus (List ℕ))
+abbrev pub asList : List ℕ → ListReply → Option (Bus (List ℕ))
 asList bytes l.Got = some (good bytes)
 asList bytes l.Failed = some failed
 asList bytes l.Wrong = none
