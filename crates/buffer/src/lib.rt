@@ -1,5 +1,8 @@
 // Buffers made and freed, as small machines over the questions allocate, map, unmap and free.
 ghost use mathlib.Core.Path.{_≡_};
+ghost use Rattle.dma.specs.declared.Buffer.{Buffer};
+ghost use Rattle.pci.specs.Refusals.{refusal};
+ghost use Rattle.buffer.specs.Buffer.{fault};
 ghost use Rattle.buffer.specs.Steps.{pagesIn, inPhase, allocated, spotted, mapStep, unmapped, freed, makeAsks, makeStepOf, makeOf};
 ghost use Rattle.buffer.specs.Steps.{startFree, toFree, freeOn, freeAsks, freeStepOf};
 ghost use Rattle.buffer.specs.declared.MakeStep.the-variants.{More};
@@ -11,11 +14,24 @@ use pci::DoneReply;
 use pci::HandleReply;
 use pci::MapReply;
 use pci::Question;
+use pci::Refusal;
 
 // Why there is no buffer: memory was not to be had, or its device address cannot be used.
 pub enum Fault {
     Memory,
     Address,
+}
+
+impl Fault {
+    // The refusal: 5 or 18.
+    pub fn refusal(self) -> Refusal
+        ensures { λ r. ⌜ refusal {A = Buffer} r ≡ fault self ⌝ }
+    {
+        match self {
+            Fault::Memory => Refusal::Memory,
+            Fault::Address => Refusal::Address,
+        }
+    }
 }
 
 // A buffer, or why there is none.

@@ -1,7 +1,9 @@
--- What the order of restoring comes to, and where the script of a reset begins.
-use Prim.Native.Nat.{ℕ, zero, suc, _*_}
+-- What the order of restoring comes to, where the script of a reset begins, and the tests on raw values.
+use Prim.Native.Nat.{ℕ, zero, suc, _*_, _/_, _%_, _^_, _<_}
 use mathlib.Core.List.{List, [], _∷_}
 use mathlib.Core.Path.{_≡_, refl}
+use native.Mathlib.Omega.{arith}
+use Rattle.hcr.specs.Words.{swapOf}
 use Rattle.reset.specs.Reset.{restoredAt, dwordAt, reset}
 use Rattle.reset.specs.Steps.{started, resetScript}
 
@@ -22,3 +24,17 @@ restored-order = refl
 -- a reset that starts has the whole script before it
 pub reset-starts : resetScript started ≡ reset
 reset-starts = refl
+
+low-byte : (q : ℕ) → q < 256 → q % 256 ≡ 0 → q ≡ 0
+low-byte q h e = omega arith
+
+-- the script compares a register's own number with 0, the Rust the raw dword: that is the same
+pub swap-zero : (x : ℕ) → x < 2 ^ 32 → swapOf x ≡ 0 → x ≡ 0
+swap-zero x h e =
+    let d = low-byte (x / 16777216) (omega arith) (omega arith) in
+    let c = low-byte (x / 65536) (omega arith) (omega arith) in
+    let b = low-byte (x / 256) (omega arith) (omega arith) in
+    low-byte x (omega arith) (omega arith)
+
+pub zero-swap : swapOf 0 ≡ 0
+zero-swap = refl

@@ -1,2 +1,3 @@
 pub mod Reset
 pub mod Steps
+pub mod Taken

@@ -197,8 +197,8 @@ moveAt k a (p.BackDevice at device link) = backDeviceMove at link (doneOf a)
 moveAt k a (p.BackLink at link) = backLinkMove (doneOf a)
 moveAt k a (p.Back n) = backMove n (doneOf a)
 
-abbrev pub stepOf : Reset → Answer → ResetStep
-stepOf s a = movedOf s (moveAt (s .control) a (s .phase))
+abbrev pub resetStepOf : Reset → Answer → ResetStep
+resetStepOf s a = movedOf s (moveAt (s .control) a (s .phase))
 
 -- where a step leads, as pci's machines have it; a reset takes no bytes beside an answer
 abbrev pub leads : Reset → Ending → Next Reset ResetEnd
@@ -209,7 +209,7 @@ abbrev pub nextOf : ResetStep → Next Reset ResetEnd
 nextOf st = leads (st .reset) (st .ending)
 
 abbrev pub resetStep : Reset → Answer → List ℕ → Next Reset ResetEnd
-resetStep s a bytes = nextOf (stepOf s a)
+resetStep s a bytes = nextOf (resetStepOf s a)
 
 -- THE SCRIPT that is left in each state
 abbrev pub scriptAt : List ℕ → Control → Phase → Script ResetEnd

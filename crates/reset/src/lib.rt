@@ -5,7 +5,7 @@ ghost use Rattle.reset.specs.declared.Phase.the-variants.{Back};
 ghost use Rattle.reset.specs.Reset.{isGood, dwordAt, restoredAt, pointer};
 ghost use Rattle.reset.specs.Steps.{started, restoring, walkMove, savingMove, pointerMove, headerMove, deviceMove, linkMove};
 ghost use Rattle.reset.specs.Steps.{heldMove, semaphoreMove, writeMove, toldMove, vendorMove, goneMove, backNext, backOn};
-ghost use Rattle.reset.specs.Steps.{saves, movedOf, moveAt, stepOf, resetAsks, asksAt};
+ghost use Rattle.reset.specs.Steps.{saves, movedOf, moveAt, resetStepOf, resetAsks, asksAt};
 use pci::Answer;
 use pci::DoneReply;
 use pci::DwordReply;
@@ -476,7 +476,7 @@ impl Reset {
 
     // The reset takes the answer to its open question; an answer of another kind leaves it as it is.
     pub fn step(self, a: Answer) -> ResetStep
-        ensures { λ r. ⌜ r ≡ stepOf self a ⌝ }
+        ensures { λ r. ⌜ r ≡ resetStepOf self a ⌝ }
     {
         let phase = self.phase;
         let control = self.control;
