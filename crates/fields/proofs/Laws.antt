@@ -148,3 +148,10 @@ field-never-short o s off w e h n = let f = e ∙ field-there o s off w h n in l
 -- where the field lies within the bytes, it is written
 pub written-is : (o : Order) (s : List ℕ) (off w v : ℕ) → off + w ≤ length s → writtenAt o s off w v ≡ putAt o s off w v
 written-is o s off w v h = rw (le-leb (off + w) (length s) h)
+
+-- the last byte of a big-endian field is the number's last digit
+pub put-last : (s : List ℕ) (off n v : ℕ) → off + suc n ≤ length s → getD (putAt Big s off (suc n) v) (off + n) 0 ≡ v % 256
+unfolding putDigits
+put-last s off n v h =
+    digits-other (set s (off + n) (v % 256)) (placeOf Big off (suc n)) n (v / 256) (off + n) (λ i l e. omega arith)
+    ∙ getD-set-same s (off + n) (v % 256) 0 (omega arith)

@@ -1,0 +1,4 @@
+pub mod Views
+pub mod Refusals
+pub mod Script
+pub mod Machine
