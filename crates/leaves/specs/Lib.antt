@@ -4,3 +4,4 @@ pub mod Bars
 pub mod Memory
 pub mod Replies
 pub mod Tables
+pub mod Command

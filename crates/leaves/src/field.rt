@@ -62,7 +62,7 @@ fn words64(r: Read64) -> [u64; 2]
     }
 }
 
-fn done(w: Written) -> u32
+pub fn done(w: Written) -> u32
     ensures { λ r. ⌜ r ≡ numberOf (written w) ⌝ }
 {
     match w {

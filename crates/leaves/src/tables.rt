@@ -72,9 +72,9 @@ fn put_ranges(out: &mut [u8], ranges: [Range; 14])
 }
 
 // The layout, where there is one, else zeros; and the refusal.
-struct Judged {
-    code: Code,
-    layout: Layout,
+pub struct Judged {
+    pub code: Code,
+    pub layout: Layout,
 }
 
 fn fit_code(k: Fit) -> Code
@@ -108,7 +108,7 @@ fn judge_laid(l: Laid) -> Judged
 }
 
 // The layout of an accepted capability reply; else the refusal.
-fn judge(c: Capability) -> Judged
+pub fn judge(c: Capability) -> Judged
     ensures { λ r. ⌜ r ≡ judgedOf (codeOf (layoutFor (capability c))) (valueOr noLayout (layoutFor (capability c))) ⌝ }
 {
     let k = c.check;
