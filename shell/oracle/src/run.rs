@@ -286,7 +286,7 @@ pub(crate) fn capabilities(c: &DevCap) -> Capabilities {
     }
 }
 
-fn port(p: &PortInfo) -> Port {
+pub(crate) fn port(p: &PortInfo) -> Port {
     Port {
         num: p.num,
         link_up: p.link_up,

@@ -29,6 +29,18 @@ pub mod oracle_access {
         hca.query_dev_cap(pci)
     }
 
+    pub fn query_fw(hca: &mut Hca, pci: &mut PciIo) -> Result<(), Fail> {
+        hca.query_fw(pci).map(|_| ())
+    }
+
+    pub fn port_info(hca: &Hca, port: u8) -> PortInfo {
+        hca.port_info(port)
+    }
+
+    pub fn map_icm(hca: &mut Hca, pci: &mut PciIo, p: &Profile) -> Result<(), Fail> {
+        hca.map_icm(pci, p)
+    }
+
     pub fn profile(cap: &DevCap) -> Result<Profile, Fail> {
         super::profile(cap)
     }

@@ -1,0 +1,103 @@
+//! The layout of the tables, the mapped ranges and the mailboxes made from them.
+
+use oracle::{leaves, parts};
+use world::prng::Prng;
+use world::results::{Layout, Table};
+
+use crate::ffi::{self, Answer};
+use crate::replies::{bar, bar_words, capability_reply, code, refusal};
+use crate::{Input, Leaf};
+
+pub const LEAVES: &[Leaf] = &[
+    Leaf { name: "layout", input: reply, rust: layout, proved: proved_layout },
+    Leaf { name: "init_hca", input: reply, rust: init_hca, proved: proved_init_hca },
+    Leaf {
+        name: "pow2",
+        input: near_a_power,
+        rust: |i| Some(Answer::words(&[parts::pow2(i.words[0])])),
+        proved: |i| Answer::words(&[ffi::pow2(i.words[0])]),
+    },
+    Leaf {
+        name: "log2",
+        input: near_a_power,
+        rust: |i| Some(Answer::words(&[parts::log2(i.words[0]).into()])),
+        proved: |i| Answer::words(&[ffi::log2(i.words[0]).into()]),
+    },
+];
+
+/// Words of an answer: the refusal, total, base special QPN, first free MTT, eleven tables, fourteen ranges.
+const WORDS: usize = 88;
+const MAX_ICM: usize = 0xa0;
+
+/// A capability reply; often the largest total that it allows is the total that it comes to, or one less.
+fn reply(r: &mut Prng) -> Input {
+    let mut bytes = capability_reply(r);
+    if r.one_in(3) {
+        bytes[MAX_ICM..MAX_ICM + 8].fill(0xff);
+        if let Ok(l) = leaves::profile(&bytes, None) {
+            let most = l.total - r.below(2) + r.below(2);
+            bytes[MAX_ICM..MAX_ICM + 8].copy_from_slice(&most.to_be_bytes());
+        }
+    }
+    let words = if r.one_in(4) { bar_words(r, &bytes) } else { vec![0, 0] };
+    Input { words, bytes }
+}
+
+fn near_a_power(r: &mut Prng) -> Input {
+    let power = 1u64 << r.below(64);
+    let any = r.next_u64() >> r.below(64);
+    Input::words(&[r.pick(&[power, power.wrapping_sub(1), power.wrapping_add(1), 0, u64::MAX, any])])
+}
+
+/// The ranges as `map_icm` computes them from the tables; whole runs of `map_icm` are compared in tests/openings.rs.
+pub fn ranges(t: &[Table; 11]) -> Vec<(u64, u64)> {
+    const CMPT: usize = 8;
+    let quarter = |k: u64, i: usize| {
+        let bytes = (t[i].count * t[CMPT].entry).div_ceil(4096) * 4096;
+        (t[CMPT].base + k * (t[CMPT].entry << 24), bytes)
+    };
+    let mut all = vec![quarter(0, 0), quarter(1, 4), quarter(2, 5), quarter(3, 6)];
+    all.extend([6, 9, 7, 0, 3, 2, 1, 5, 4, 10].map(|i| (t[i].base, t[i].bytes)));
+    all
+}
+
+fn layout_words(l: &Layout) -> Vec<u64> {
+    let mut order: Vec<usize> = (0..l.tables.len()).collect();
+    order.sort_by_key(|i| l.tables[*i].base);
+    let row = |i: usize| {
+        let t = &l.tables[i];
+        [i as u64, t.entry, t.count, t.bytes, t.base]
+    };
+    let mut words = vec![0, 0, l.total, l.base_sqpn, l.first_free_mtt];
+    words.extend(order.into_iter().flat_map(row));
+    words.extend(ranges(&l.tables).into_iter().flat_map(|(virt, bytes)| [virt, bytes]));
+    words
+}
+
+/// A refusal is compared by number and value, and has no layout; the two numbers from the capabilities are not looked at.
+fn layout(i: &Input) -> Option<Answer> {
+    let outcome = leaves::profile(&i.bytes, bar(i));
+    Some(match refusal(&outcome) {
+        Some(r) => Answer::words(&[&code(r)[..], &[0; WORDS - 4]].concat()),
+        None => Answer { words: layout_words(&outcome.expect("a layout")), bytes: Vec::new() },
+    })
+}
+
+fn proved_layout(i: &Input) -> Answer {
+    let mut words = ffi::layout(&i.bytes, bar(i)).to_vec();
+    if words[0] != 0 {
+        words.drain(3..5);
+    }
+    Answer { words, bytes: Vec::new() }
+}
+
+fn init_hca(i: &Input) -> Option<Answer> {
+    let bytes = leaves::init_hca(&i.bytes).ok()?;
+    Some(Answer { words: vec![0], bytes })
+}
+
+fn proved_init_hca(i: &Input) -> Answer {
+    let mut inbox = vec![0xa5; 4096];
+    let number = ffi::init_hca(&i.bytes, None, &mut inbox);
+    Answer { words: vec![number.into()], bytes: inbox }
+}
