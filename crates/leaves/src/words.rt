@@ -8,7 +8,7 @@ ghost use Rattle.leaves.specs.Words.{putWords, answer, said, bit};
 pub const SHORT: u32 = 21;
 
 // The words one after another, from word `at` of the slice on.
-pub fn put(out: &mut [u8], at: usize, words: &[u64])
+pub(crate) fn put(out: &mut [u8], at: usize, words: &[u64])
     requires { ⌜ at + length (now words) ≤ 512 ⌝ }
     ensures { λ _. ⌜ now (out .exit) ≡ putWords (now (out .entry)) at (now (words .entry)) ⌝ }
 {
@@ -20,7 +20,7 @@ pub fn put(out: &mut [u8], at: usize, words: &[u64])
 }
 
 // The whole answer, or 21 and nothing where the slice is too short for it.
-pub fn give(out: &mut [u8], words: &[u64]) -> u32
+pub(crate) fn give(out: &mut [u8], words: &[u64]) -> u32
     requires { ⌜ length (now words) ≤ 512 ⌝ }
     ensures { λ r. ⌜ r ≡ said (length (now (words .entry))) (now (out .entry)) ⌝ }
     ensures { λ _. ⌜ now (out .exit) ≡ answer (length (now (words .entry))) (now (out .entry)) (now (words .entry)) ⌝ }
