@@ -3,6 +3,7 @@ ghost use mathlib.Core.Path.{_≡_};
 ghost use Rattle.fields.specs.Outcome.{numberOf};
 ghost use Rattle.pci.specs.Refusals.{refusal};
 ghost use Rattle.pci.specs.Views.{wordOf, dwordOf, qwordOf, doneOf, toldOf, grantedOf, mappedOf, listOf};
+ghost use Rattle.pci.specs.Suits.{isWord, isDword, isQword, isDone, isTold, isHandle, isMap, isList, suitsOf};
 
 // One kind for each bus call, a fence, and finished. Registers carry their value as the bus does.
 pub enum Question {
@@ -281,5 +282,109 @@ pub fn as_list(a: Answer) -> ListReply
         Answer::Handle(_) => ListReply::Wrong,
         Answer::Mapped(_, _) => ListReply::Wrong,
         Answer::List => ListReply::Got,
+    }
+}
+
+// The answer was of the right kind, good or failed; one function for each kind of reply.
+fn is_word(r: WordReply) -> bool
+    ensures { λ b. ⌜ b ≡ isWord r ⌝ }
+{
+    match r {
+        WordReply::Got(_) => true,
+        WordReply::Failed => true,
+        WordReply::Wrong => false,
+    }
+}
+
+fn is_dword(r: DwordReply) -> bool
+    ensures { λ b. ⌜ b ≡ isDword r ⌝ }
+{
+    match r {
+        DwordReply::Got(_) => true,
+        DwordReply::Failed => true,
+        DwordReply::Wrong => false,
+    }
+}
+
+fn is_qword(r: QwordReply) -> bool
+    ensures { λ b. ⌜ b ≡ isQword r ⌝ }
+{
+    match r {
+        QwordReply::Got(_) => true,
+        QwordReply::Failed => true,
+        QwordReply::Wrong => false,
+    }
+}
+
+fn is_done(r: DoneReply) -> bool
+    ensures { λ b. ⌜ b ≡ isDone r ⌝ }
+{
+    match r {
+        DoneReply::Done => true,
+        DoneReply::Failed => true,
+        DoneReply::Wrong => false,
+    }
+}
+
+fn is_handle(r: HandleReply) -> bool
+    ensures { λ b. ⌜ b ≡ isHandle r ⌝ }
+{
+    match r {
+        HandleReply::Got(_) => true,
+        HandleReply::Failed => true,
+        HandleReply::Wrong => false,
+    }
+}
+
+fn is_map(r: MapReply) -> bool
+    ensures { λ b. ⌜ b ≡ isMap r ⌝ }
+{
+    match r {
+        MapReply::Got(_, _) => true,
+        MapReply::Failed => true,
+        MapReply::Wrong => false,
+    }
+}
+
+fn is_list(r: ListReply) -> bool
+    ensures { λ b. ⌜ b ≡ isList r ⌝ }
+{
+    match r {
+        ListReply::Got => true,
+        ListReply::Failed => true,
+        ListReply::Wrong => false,
+    }
+}
+
+// A stall and a fence cannot fail.
+fn is_told(r: ToldReply) -> bool
+    ensures { λ b. ⌜ b ≡ isTold r ⌝ }
+{
+    match r {
+        ToldReply::Told => true,
+        ToldReply::Wrong => false,
+    }
+}
+
+// The answer is of the right kind for the question; else it is 20.
+pub fn suits(q: Question, a: Answer) -> bool
+    ensures { λ r. ⌜ r ≡ suitsOf q a ⌝ }
+{
+    match q {
+        Question::ConfigRead16(_) => is_word(as_word(a)),
+        Question::ConfigRead32(_) => is_dword(as_dword(a)),
+        Question::ConfigWrite16(_, _) => is_done(as_done(a)),
+        Question::ConfigWrite32(_, _) => is_done(as_done(a)),
+        Question::RegRead(_, _) => is_dword(as_dword(a)),
+        Question::RegWrite(_, _, _) => is_done(as_done(a)),
+        Question::Attributes(_, _) => is_qword(as_qword(a)),
+        Question::Resource(_) => is_list(as_list(a)),
+        Question::Stall(_) => is_told(as_told(a)),
+        Question::Allocate(_) => is_handle(as_handle(a)),
+        Question::Map(_, _) => is_map(as_map(a)),
+        Question::Unmap(_) => is_done(as_done(a)),
+        Question::Free(_, _) => is_done(as_done(a)),
+        Question::Fence => is_told(as_told(a)),
+        Question::Finished => false,
     }
 }
