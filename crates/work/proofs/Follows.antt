@@ -110,10 +110,10 @@ module _ (inbox : List ℕ) (r : Reset) (f : FindBar) where
       within claimAsks claimStep claimScript workAsks workStep (workScript inbox) (λ j. at (t.Claim j)) (λ v. e.Claim v) (λ j. refl) k refl (λ a bytes. claim-led k (claimStepOf k a)) (claimScript k) (claim-follows k)
   at-task t.Reset h =
       within resetAsks resetStep resetScript workAsks workStep (workScript inbox) (λ j. working t.Reset j f) (λ v. e.Reset v) (λ j. refl) r refl
-          (λ a bytes. reset-led (resetStepOf r a .reset) (resetStepOf r a .ending)) (resetScript r) (reset-follows r)
+      (λ a bytes. reset-led (resetStepOf r a .reset) (resetStepOf r a .ending)) (resetScript r) (reset-follows r)
   at-task t.Bar h =
       within barAsks barStep barScript workAsks workStep (workScript inbox) (λ j. working t.Bar r j) (λ v. e.Bar v) (λ j. refl) f refl
-          (λ a bytes. bar-led (barStepOf f a bytes .find) (barStepOf f a bytes .ending)) (barScript f) (bar-follows f)
+      (λ a bytes. bar-led (barStepOf f a bytes .find) (barStepOf f a bytes .ending)) (barScript f) (bar-follows f)
   at-task (t.Make k) h =
       within makeAsks makeStep makeScript workAsks workStep (workScript inbox) (λ j. at (t.Make j)) (λ v. e.Made v) (λ j. refl) k refl (λ a bytes. make-led k (makeStepOf k a)) (makeScript k) (make-follows k)
   at-task (t.Free k) h =

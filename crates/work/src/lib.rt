@@ -1,8 +1,8 @@
 // What a session has under way: one of its tasks, behind one question and one step.
 use buffer::FreeStep;
 use buffer::Freeing;
-use buffer::MakeStep;
 use buffer::Made;
+use buffer::MakeStep;
 use buffer::Making;
 use command::Cmd;
 use command::CmdEnd;
