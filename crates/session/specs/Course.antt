@@ -6,7 +6,17 @@ use mathlib.Core.List.{List}
 use lib.ListN.{replicate}
 use Rattle.pci.specs.Script.{Script, Ask, Reply, Bus, good, failed, configRead16, configRead32, configWrite16, configWrite32, read, write, attributes, resource, stall, allocate, mapped, unmap, free, fence}
 use Rattle.pci.specs.Script as s
+use Rattle.hcr.specs.declared.Post.{Post}
+use Rattle.command.specs.Script.{command}
+use Rattle.command.specs.declared.CmdResult.{CmdResult}
+use Rattle.session.specs.Session.{wired, after, catasFor}
 use Rattle.session.specs.declared.Top.{Top}
+use Rattle.session.specs.declared.Books.{Books}
+use Rattle.session.specs.declared.Stage.{Stage}
+use Rattle.session.specs.declared.Info.{Info}
+use Rattle.session.specs.declared.Failure.{Failure}
+use Rattle.session.specs.declared.Closing.{Closing}
+use Rattle.session.specs.declared.Session.{Session}
 
 -- what is lent with a reply
 pub record Lent : Type 0 where
@@ -81,3 +91,21 @@ run b (s.ask q f) k h = ask q (left h) (λ r l. run b (f r) k (touched b q r (le
 
 abbrev pub task : {A R : Type 0} → Script A → (A → Here → Course R) → Here → Course R
 task t k h = run neither t k h
+
+-- a command in a course: its result, and the books with the toggle that it leaves. Its fences copy the inbox as it stands
+abbrev pub sends : {R : Type 0} → Books → Post → (CmdResult → Books → Here → Course R) → Here → Course R
+sends b p k h = task (command (catasFor (b .wire)) (h .inbox) (b .wire .toggle) p) (λ e j. k (e .result) (wired b (after (b .wire) e)) j) h
+
+-- what a session is between two calls
+pub record Rest : Type 0 where
+  pub stage : Stage
+  pub books : Books
+  pub info : Info
+  pub failure : Failure
+  pub closing : Closing
+
+abbrev pub atRest : Stage → Books → Info → Failure → Closing → Rest
+atRest s b n f c = record { stage = s; books = b; info = n; failure = f; closing = c }
+
+abbrev pub restOf : Session → Rest
+restOf s = atRest (s .stage) (s .books) (s .info) (s .failure) (s .closing)

@@ -126,7 +126,8 @@ pub enum Boot {
     Adapter,
 }
 
-// What the task under way is for, in a closing. `Undo` has how many more may be sent; the ranges below `Unmap` are still to be unmapped.
+// What the task under way is for, in a closing. `Undo` has how many more may be sent; the ranges below `Unmap` are still to be unmapped; lent buffers and ranges
+// from the number of `FreeLent` and `FreeIcm` on are still to be freed.
 pub enum Close {
     Undo(u32),
     CloseHca,

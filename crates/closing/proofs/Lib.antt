@@ -1,0 +1,2 @@
+pub mod Lands
+pub mod Steps

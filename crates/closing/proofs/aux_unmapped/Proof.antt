@@ -1,0 +1,33 @@
+use borrow.Author.Needs.{needs}
+use Rattle.closing.specs.Plan.{closePlan}
+use Rattle.closing.proofs.aux_unmapped.Statement.{statement}
+use Rattle.closing.proofs.aux_unmapped.Tie as tie
+
+returns : tie.Need-returns
+unfolding closePlan
+returns c = simp (
+  c .before .before .before .took .ensures,
+  ← (c .before .before .is-done .ensures),
+  c .before .if1 .taken,
+  c .unmap-fa .ensures,
+)
+
+returns-2 : tie.Need-returns-2
+unfolding closePlan
+returns-2 c = simp (
+  c .before .before .before .took .ensures,
+  ← (c .before .before .is-done .ensures),
+  c .before .if1 .left,
+  c .reset .ensures,
+)
+
+pub aux-unmapped-spec : {M : Type 1} → statement M
+aux-unmapped-spec =
+    tie.close
+    (tie.spec
+    (λ c κs. search needs)
+    (λ c κs. search needs)
+    (λ c κs. search needs)
+    returns
+    (λ c κs. search needs)
+    returns-2)

@@ -1,0 +1,27 @@
+use borrow.Author.Needs.{needs}
+use Rattle.closing.specs.Plan.{stoppedPlan}
+use Rattle.closing.proofs.stopped.Statement.{statement}
+use Rattle.closing.proofs.stopped.Tie as tie
+
+returns : tie.Need-returns
+unfolding stoppedPlan
+returns c = simp (
+  c .before .if1 .taken,
+  c .reset .ensures,
+)
+
+returns-2 : tie.Need-returns-2
+unfolding stoppedPlan
+returns-2 c = simp (
+  c .before .if1 .left,
+  c .give .ensures,
+)
+
+pub stopped-spec : {M : Type 1} → statement M
+stopped-spec =
+    tie.close
+    (tie.spec
+    (λ c κs. search needs)
+    returns
+    (λ c κs. search needs)
+    returns-2)

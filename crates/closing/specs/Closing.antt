@@ -1,0 +1,132 @@
+-- Closing, as a course. Document 01: "Closing sends undo records newest first, CLOSE_HCA, UNMAP_ICM newest first, UNMAP_ICM_AUX, UNMAP_FA; if one fails, or the
+-- session is broken, it resets. It also resets where, by the card rules and the answers so far, the card could still use a page about to be freed. It then frees,
+-- or keeps all if the reset failed. The result clean, reset or kept is added."
+use Prim.Native.Nat.{ℕ, zero, suc, _-_, _%_, _^_}
+use mathlib.Core.Bool.{Bool, true, false}
+use mathlib.Core.List.{List, [], _∷_, _++_}
+use lib.Dec.{eqb}
+use lib.ListN.{replicate}
+use Rattle.fields.specs.Outcome.{pick}
+use Rattle.dma.specs.Pages.{table}
+use Rattle.dma.specs.declared.Buffer.{Buffer}
+use Rattle.hcr.specs.Words.{isReserved}
+use Rattle.hcr.specs.declared.Post.{Post}
+use Rattle.command.specs.declared.CmdResult.{CmdResult}
+use Rattle.command.specs.declared.CmdResult.the-variants as r
+use Rattle.reset.specs.Reset.{reset, isGood}
+use Rattle.buffer.specs.Buffer.{freeing}
+use Rattle.tasks.specs.Parting.{releasing, restoring}
+use Rattle.session.specs.Session.{noBuffer, noIcm, wired, broken, books, bufferAt, icmAt, bufferOf, immOf}
+use Rattle.session.specs.Course.{Course, ret, Here, here, left, task, sends, Rest, atRest}
+use Rattle.session.specs.declared.Hold.{Hold}
+use Rattle.session.specs.declared.Hold.the-variants as o
+use Rattle.session.specs.declared.Icm.{Icm}
+use Rattle.session.specs.declared.Top.{Top}
+use Rattle.session.specs.declared.Books.{Books}
+use Rattle.session.specs.declared.Info.{Info}
+use Rattle.session.specs.declared.Stage.the-variants as g
+use Rattle.session.specs.declared.Failure.{Failure}
+use Rattle.session.specs.declared.Closing.{Closing}
+use Rattle.session.specs.declared.Closing.the-variants as c
+
+-- a command was good
+abbrev pub isDone : CmdResult → Bool
+isDone (r.Done x us) = true
+isDone (r.Status s us) = false
+isDone (r.Timeout us) = false
+isDone r.Busy = false
+isDone (r.Bus us) = false
+
+-- WHAT IS HELD, in the order in which it is freed: lent buffers oldest first, ICM ranges in mapping order, the auxiliary area, the firmware area, inbox, outbox
+abbrev pub inHold : Hold → List Buffer
+inHold o.Absent = []
+inHold (o.Held x) = x ∷ []
+
+abbrev pub isHeld : Hold → Bool
+isHeld o.Absent = false
+isHeld (o.Held x) = true
+
+abbrev pub boxes : Books → List Buffer
+boxes b = inHold (b .held .inbox) ++ inHold (b .held .outbox)
+
+abbrev pub areas : Books → List Buffer
+areas b = inHold (b .held .aux) ++ (inHold (b .held .fa) ++ boxes b)
+
+abbrev pub rangesFrom : Books → ℕ → List Buffer
+rangesFrom b i = table (λ k. bufferOf (icmAt (b .lists .icm) k)) i (b .lists .ranges - i) ++ areas b
+
+abbrev pub lendsFrom : Books → ℕ → List Buffer
+lendsFrom b i = table (λ k. bufferAt (b .lists .lent) k) i (b .lists .lends - i) ++ rangesFrom b 0
+
+-- the books once all is freed
+abbrev pub emptied : Books → Books
+emptied b =
+    books (b .wire) (record { inbox = o.Absent; outbox = o.Absent; fa = o.Absent; aux = o.Absent })
+    (record { icm = b .lists .icm; ranges = 0; lent = b .lists .lent; lends = 0 }) (b .started) (b .original)
+
+-- the newest undo record as a command, and the list without it
+abbrev pub undoPost : Top → Post
+undoPost u = immOf (u .op) (u .«op_mod») (u .«in_mod») (u .«in_param»)
+
+abbrev pub popped : Top → Top
+popped u = record { count = u .count - 1; op = u .op; «op_mod» = u .«op_mod»; «in_mod» = u .«in_mod»; «in_param» = u .«in_param» }
+
+-- how many undo records a closing sends at most; more than any list holds, so that only a caller who pushes on and on is stopped
+abbrev pub UNDOS : ℕ
+UNDOS = 2 ^ 32 - 1
+
+module _ (n : Info) (f : Failure) where
+  -- the end: the owner is released, the attributes are restored
+  unfoldable pub restored : Closing → Books → Here → Course Rest
+  restored c b h = task (restoring (b .original)) (λ x k. ret (left k) (atRest g.Ended b n f c)) h
+
+  unfoldable pub parted : Closing → Books → Here → Course Rest
+  parted c b h = task releasing (λ x k. restored c b k) h
+
+  -- the buffers, one by one
+  unfoldable pub freed : List Buffer → (Here → Course Rest) → Here → Course Rest
+  freed [] k h = k h
+  freed (x ∷ xs) k h = task (freeing (x .handle) (x .pages)) (λ u j. freed xs k j) h
+
+  unfoldable pub giving : Closing → Books → Here → Course Rest
+  giving c b h = freed (lendsFrom b 0) (λ k. parted c (emptied b) k) h
+
+  -- "or keeps all if the reset failed"
+  unfoldable pub resetting : Books → Here → Course Rest
+  resetting b h = task reset (λ e k. pick (isGood e) (giving c.Reset b k) (parted c.Kept b k)) h
+
+  -- all commands were good, and none may still run
+  unfoldable pub stopped : Books → Here → Course Rest
+  stopped b h = pick (b .wire .running) (resetting b h) (giving c.Clean b h)
+
+  -- "if one fails .. it resets"
+  abbrev pub onward : (Books → Here → Course Rest) → CmdResult → Books → Here → Course Rest
+  onward k x b h = pick (isDone x) (k b h) (resetting b h)
+
+  unfoldable pub unmapFa : Books → Here → Course Rest
+  unmapFa b h = pick (isHeld (b .held .fa)) (sends b (immOf 0xffe 0 0 0) (onward stopped) h) (stopped b h)
+
+  unfoldable pub unmapAux : Books → Here → Course Rest
+  unmapAux b h = pick (isHeld (b .held .aux)) (sends b (immOf 0xffb 0 0 0) (onward unmapFa) h) (unmapFa b h)
+
+  -- the ranges below i, newest first; a range's pages and its card address
+  unfoldable pub unmapping : (i : ℕ) → Books → Here → Course Rest
+  unmapping zero b h = unmapAux b h
+  unmapping (suc i) b h =
+      sends b (immOf 0xff9 0 (icmAt (b .lists .icm) i .pages % 2 ^ 32) (icmAt (b .lists .icm) i .virt)) (onward (unmapping i)) h
+
+  unfoldable pub closeHca : Books → Here → Course Rest
+  closeHca b h = pick (b .started) (sends b (immOf 0x008 0 0 0) (onward (unmapping (b .lists .ranges))) h) (unmapping (b .lists .ranges) b h)
+
+  -- the newest record of the list as it is lent then: "An undo record is taken off before its command is sent; one under 22 stays on, but .. counts as a failed
+  -- undo command"
+  unfoldable pub undoing : (more : ℕ) → Books → Here → Course Rest
+  undoing zero b h = pick (eqb (h .undo .count) 0) (closeHca b h) (resetting b h)
+  undoing (suc k) b h =
+      pick (eqb (h .undo .count) 0) (closeHca b h)
+      (pick (isReserved (h .undo .op)) (resetting b h)
+      (sends b (undoPost (h .undo)) (onward (undoing k)) (here (h .inbox) (h .outbox) (popped (h .undo)))))
+
+  -- CLOSING
+  unfoldable pub stopping : Books → Here → Course Rest
+  stopping b h = pick (b .wire .broken) (resetting b h) (undoing UNDOS b h)
