@@ -37,6 +37,7 @@ use Rattle.session.specs.declared.Close.{Close}
 use Rattle.session.specs.declared.Close.the-variants as k
 use Rattle.session.specs.declared.Closing.{Closing}
 use Rattle.session.specs.declared.Closing.the-variants as c
+use Rattle.session.specs.declared.Fill.{Fill}
 use Rattle.session.specs.declared.Fill.the-variants as w
 use Rattle.session.specs.declared.Session.{Session}
 use Rattle.session.specs.declared.Planned.{Planned}
@@ -44,6 +45,7 @@ use Rattle.closing.specs.Closing.{isDone, isHeld, emptied, undoPost, pop
 use Rattle.closing.specs.Closing as q
 use Rattle.closing.specs.Plan.{cmdIn, resetIn, closesOf, resetsOf, restorePlan, releasePlan, freePlan, onHold, givenPlan, outboxPlan, inboxPlan, faPlan, auxPlan, icmPlan, lentPlan, givePlan, resetPlan, stoppedPlan, sendPlan, unmapFaPlan, unmapAuxPlan, unmapPlan, closeHcaPlan, undoSend, undoPlan, stopPlan, onwardPlan, wasReset, closePlan, afterClose, closeCourse, then, gone, planHere, tookBooks}
 
+-- what the stages of an opening mean is left open
 module _ (P : Prepare → Session → Here → Course Rest) (B : Boot → Session → Here → Course Rest) where
   -- the course that is left in a session
   abbrev pub means : Stage → Session → Here → Course Rest
@@ -54,158 +56,167 @@ module _ (P : Prepare → Session → Here → Course Rest) (B : Boot → Sessio
   means (g.Boot x) s h = B x s h
   means (g.Close x) s h = closeCourse x s h
 
-  -- and where a plan leads
-  abbrev pub leads : Planned → Here → Course Rest
-  leads p h = means (p .session .stage) (p .session) (planHere p h)
+  -- and so is what is written to the mailboxes
+  module _ (F : Fill → Session → Here → Course Rest) where
+    abbrev pub filled : Fill → Session → Here → Course Rest
+    filled w.Nothing s h = means (s .stage) s h
+    filled w.Outbox s h = F w.Outbox s h
+    filled (w.List x) s h = F (w.List x) s h
+    filled w.ModStat s h = F w.ModStat s h
+    filled w.InitHca s h = F w.InitHca s h
 
-  pick-leads : (b : Bool) (x y : Planned) (h : Here) (u v : Course Rest) → leads x h ≡ u → leads y h ≡ v → leads (pick b x y) h ≡ pick b u v
-  pick-leads true x y h u v d e = d
-  pick-leads false x y h u v d e = e
+    -- and where a plan leads
+    abbrev pub leads : Planned → Here → Course Rest
+    leads p h = filled (p .fill) (p .session) (planHere p h)
 
-  restore-leads : (s : Session) (h : Here) → leads (restorePlan s (h .undo .count)) h ≡ q.restored (s .info) (s .failure) (s .closing) (s .books) h
-  unfolding q.restored closeCourse
-  restore-leads s h = run-turned neither (restoring (s .books .original)) (λ x. e.Parted) (afterClose k.Restore s) h
+    pub pick-leads : (b : Bool) (x y : Planned) (h : Here) (u v : Course Rest) → leads x h ≡ u → leads y h ≡ v → leads (pick b x y) h ≡ pick b u v
+    pick-leads true x y h u v d e = d
+    pick-leads false x y h u v d e = e
 
-  release-leads : (s : Session) (h : Here) → leads (releasePlan s (h .undo .count)) h ≡ q.parted (s .info) (s .failure) (s .closing) (s .books) h
-  unfolding q.parted closeCourse
-  release-leads s h = run-turned neither releasing (λ x. e.Parted) _ h
+    pub restore-leads : (s : Session) (h : Here) → leads (restorePlan s (h .undo .count)) h ≡ q.restored (s .info) (s .failure) (s .closing) (s .books) h
+    unfolding q.restored closeCourse
+    restore-leads s h = run-turned neither (restoring (s .books .original)) (λ x. e.Parted) (afterClose k.Restore s) h
 
-  abbrev freeingIn : Session → Close → Buffer → Session
-  freeingIn s st x = starts s (g.Close st) (t.Free (startFree x))
+    pub release-leads : (s : Session) (h : Here) → leads (releasePlan s (h .undo .count)) h ≡ q.parted (s .info) (s .failure) (s .closing) (s .books) h
+    unfolding q.parted closeCourse
+    release-leads s h = run-turned neither releasing (λ x. e.Parted) _ h
 
-  -- a buffer is freed, and then the others
-  free-leads : (s : Session) (st : Close) (x : Buffer) (h : Here) (xs : List Buffer) → ((j : Here) → afterClose st (freeingIn s st x) e.Freed j ≡ gone s xs j) → leads (freePlan s st x (h .undo .count)) h ≡ gone s (x ∷ xs) h
-  unfolding q.freed closeCourse
-  free-leads s st x h xs a =
-      run-turned neither (freeScript (startFree x)) (λ u. e.Freed) (afterClose st (freeingIn s st x)) h
-      ∙ run-same neither (freeScript (startFree x)) (λ u j. afterClose st (freeingIn s st x) e.Freed j) (λ u j. gone s xs j) h (λ u j. a j)
+    abbrev freeingIn : Session → Close → Buffer → Session
+    freeingIn s st x = starts s (g.Close st) (t.Free (startFree x))
 
-  hold-leads : (s : Session) (st : Close) (x : Hold) (z : Planned) (h : Here) (xs : List Buffer) → ((b : Buffer) (j : Here) → afterClose st (freeingIn s st b) e.Freed j ≡ gone s xs j) → leads z h ≡ gone s xs h
-      → leads (onHold x (λ b. freePlan s st b (h .undo .count)) z) h ≡ gone s (inHold x ++ xs) h
-  hold-leads s st o.Absent z h xs a d = d
-  hold-leads s st (o.Held b) z h xs a d = free-leads s st b h xs (a b)
+    -- a buffer is freed, and then the others
+    free-leads : (s : Session) (st : Close) (x : Buffer) (h : Here) (xs : List Buffer) → ((j : Here) → afterClose st (freeingIn s st x) e.Freed j ≡ gone s xs j) → leads (freePlan s st x (h .undo .count)) h ≡ gone s (x ∷ xs) h
+    unfolding q.freed closeCourse
+    free-leads s st x h xs a =
+        run-turned neither (freeScript (startFree x)) (λ u. e.Freed) (afterClose st (freeingIn s st x)) h
+        ∙ run-same neither (freeScript (startFree x)) (λ u j. afterClose st (freeingIn s st x) e.Freed j) (λ u j. gone s xs j) h (λ u j. a j)
 
-  given-leads : (s : Session) (h : Here) → leads (givenPlan s (h .undo .count)) h ≡ q.parted (s .info) (s .failure) (s .closing) (emptied (s .books)) h
-  given-leads s h = release-leads (closesOf s (s .closing) (emptied (s .books))) h
+    hold-leads : (s : Session) (st : Close) (x : Hold) (z : Planned) (h : Here) (xs : List Buffer) → ((b : Buffer) (j : Here) → afterClose st (freeingIn s st b) e.Freed j ≡ gone s xs j) → leads z h ≡ gone s xs h
+        → leads (onHold x (λ b. freePlan s st b (h .undo .count)) z) h ≡ gone s (inHold x ++ xs) h
+    hold-leads s st o.Absent z h xs a d = d
+    hold-leads s st (o.Held b) z h xs a d = free-leads s st b h xs (a b)
 
-  gone-none : (s : Session) (h : Here) → gone s [] h ≡ q.parted (s .info) (s .failure) (s .closing) (emptied (s .books)) h
-  unfolding q.freed
-  gone-none s h = refl
+    given-leads : (s : Session) (h : Here) → leads (givenPlan s (h .undo .count)) h ≡ q.parted (s .info) (s .failure) (s .closing) (emptied (s .books)) h
+    given-leads s h = release-leads (closesOf s (s .closing) (emptied (s .books))) h
 
-  append-nil : (xs : List Buffer) → xs ++ [] ≡ xs
-  append-nil [] = refl
-  append-nil (x ∷ xs) = ap (λ (ys : List Buffer). x ∷ ys) (append-nil xs)
+    gone-none : (s : Session) (h : Here) → gone s [] h ≡ q.parted (s .info) (s .failure) (s .closing) (emptied (s .books)) h
+    unfolding q.freed
+    gone-none s h = refl
 
-  outbox-leads : (s : Session) (h : Here) → leads (outboxPlan s (h .undo .count)) h ≡ gone s (inHold (s .books .held .outbox)) h
-  unfolding outboxPlan
-  outbox-leads s h =
-      hold-leads s k.FreeOutbox (s .books .held .outbox) _ h [] (λ b j. sym (gone-none s j)) (given-leads s h ∙ sym (gone-none s h)) ∙ ap (λ (xs : List Buffer). gone s xs h) (append-nil (inHold (s .books .held .outbox)))
+    pub append-nil : (xs : List Buffer) → xs ++ [] ≡ xs
+    append-nil [] = refl
+    append-nil (x ∷ xs) = ap (λ (ys : List Buffer). x ∷ ys) (append-nil xs)
 
-  inbox-leads : (s : Session) (h : Here) → leads (inboxPlan s (h .undo .count)) h ≡ gone s (boxes (s .books)) h
-  unfolding inboxPlan
-  inbox-leads s h = hold-leads s k.FreeInbox (s .books .held .inbox) _ h (inHold (s .books .held .outbox)) (λ b j. refl) (outbox-leads s h)
+    outbox-leads : (s : Session) (h : Here) → leads (outboxPlan s (h .undo .count)) h ≡ gone s (inHold (s .books .held .outbox)) h
+    unfolding outboxPlan
+    outbox-leads s h =
+        hold-leads s k.FreeOutbox (s .books .held .outbox) _ h [] (λ b j. sym (gone-none s j)) (given-leads s h ∙ sym (gone-none s h)) ∙ ap (λ (xs : List Buffer). gone s xs h) (append-nil (inHold (s .books .held .outbox)))
 
-  fa-leads : (s : Session) (h : Here) → leads (faPlan s (h .undo .count)) h ≡ gone s (inHold (s .books .held .fa) ++ boxes (s .books)) h
-  unfolding faPlan
-  fa-leads s h = hold-leads s k.FreeFa (s .books .held .fa) _ h (boxes (s .books)) (λ b j. refl) (inbox-leads s h)
+    inbox-leads : (s : Session) (h : Here) → leads (inboxPlan s (h .undo .count)) h ≡ gone s (boxes (s .books)) h
+    unfolding inboxPlan
+    inbox-leads s h = hold-leads s k.FreeInbox (s .books .held .inbox) _ h (inHold (s .books .held .outbox)) (λ b j. refl) (outbox-leads s h)
 
-  aux-leads : (s : Session) (h : Here) → leads (auxPlan s (h .undo .count)) h ≡ gone s (areas (s .books)) h
-  unfolding auxPlan
-  aux-leads s h = hold-leads s k.FreeAux (s .books .held .aux) _ h (inHold (s .books .held .fa) ++ boxes (s .books)) (λ b j. refl) (fa-leads s h)
+    fa-leads : (s : Session) (h : Here) → leads (faPlan s (h .undo .count)) h ≡ gone s (inHold (s .books .held .fa) ++ boxes (s .books)) h
+    unfolding faPlan
+    fa-leads s h = hold-leads s k.FreeFa (s .books .held .fa) _ h (boxes (s .books)) (λ b j. refl) (inbox-leads s h)
 
-  -- a row of a list and those behind it, or the end of the list
-  row-leads : (s : Session) (st : Close) (f : ℕ → Buffer) (i n : ℕ) (z : Planned) (h : Here) (xs : List Buffer)
-      → ((j : Here) → afterClose st (freeingIn s st (f i)) e.Freed j ≡ gone s (table f (i + 1) (n - (i + 1)) ++ xs) j) → leads z h ≡ gone s xs h
-      → (b : Bool) → ltb i n ≡ b → leads (pick b (freePlan s st (f i) (h .undo .count)) z) h ≡ gone s (table f i (n - i) ++ xs) h
-  unfolding table
-  row-leads s st f i n z h xs a d true t =
-      let l : i < n = ltb-true i n t in let m : n - i ≡ suc (n - suc i) = omega arith in
-      free-leads s st (f i) h (table f (suc i) (n - suc i) ++ xs) (λ j. a j ∙ ap (λ (m : ℕ). gone s (table f m (n - m) ++ xs) j) (add-one i)) ∙ sym (ap (λ (m : ℕ). gone s (table f i m ++ xs) h) m)
-  row-leads s st f i n z h xs a d false t =
-      let l : n ≤ i = ltb-false i n t in let m : n - i ≡ 0 = omega arith in
-      d ∙ sym (ap (λ (m : ℕ). gone s (table f i m ++ xs) h) m)
+    aux-leads : (s : Session) (h : Here) → leads (auxPlan s (h .undo .count)) h ≡ gone s (areas (s .books)) h
+    unfolding auxPlan
+    aux-leads s h = hold-leads s k.FreeAux (s .books .held .aux) _ h (inHold (s .books .held .fa) ++ boxes (s .books)) (λ b j. refl) (fa-leads s h)
 
-  icm-leads : (s : Session) (i : ℕ) (h : Here) → leads (icmPlan s i (h .undo .count)) h ≡ gone s (rangesFrom (s .books) i) h
-  unfolding icmPlan
-  icm-leads s i h =
-      row-leads s (k.FreeIcm (i + 1)) (λ m. bufferOf (icmAt (s .books .lists .icm) m)) i (s .books .lists .ranges) _ h (areas (s .books)) (λ j. refl) (aux-leads s h) (ltb i (s .books .lists .ranges)) refl
+    -- a row of a list and those behind it, or the end of the list
+    row-leads : (s : Session) (st : Close) (f : ℕ → Buffer) (i n : ℕ) (z : Planned) (h : Here) (xs : List Buffer)
+        → ((j : Here) → afterClose st (freeingIn s st (f i)) e.Freed j ≡ gone s (table f (i + 1) (n - (i + 1)) ++ xs) j) → leads z h ≡ gone s xs h
+        → (b : Bool) → ltb i n ≡ b → leads (pick b (freePlan s st (f i) (h .undo .count)) z) h ≡ gone s (table f i (n - i) ++ xs) h
+    unfolding table
+    row-leads s st f i n z h xs a d true t =
+        let l : i < n = ltb-true i n t in let m : n - i ≡ suc (n - suc i) = omega arith in
+        free-leads s st (f i) h (table f (suc i) (n - suc i) ++ xs) (λ j. a j ∙ ap (λ (m : ℕ). gone s (table f m (n - m) ++ xs) j) (add-one i)) ∙ sym (ap (λ (m : ℕ). gone s (table f i m ++ xs) h) m)
+    row-leads s st f i n z h xs a d false t =
+        let l : n ≤ i = ltb-false i n t in let m : n - i ≡ 0 = omega arith in
+        d ∙ sym (ap (λ (m : ℕ). gone s (table f i m ++ xs) h) m)
 
-  lent-leads : (s : Session) (i : ℕ) (h : Here) → leads (lentPlan s i (h .undo .count)) h ≡ gone s (lendsFrom (s .books) i) h
-  unfolding lentPlan
-  lent-leads s i h =
-      row-leads s (k.FreeLent (i + 1)) (λ m. bufferAt (s .books .lists .lent) m) i (s .books .lists .lends) _ h (rangesFrom (s .books) 0) (λ j. refl) (icm-leads s 0 h) (ltb i (s .books .lists .lends)) refl
+    icm-leads : (s : Session) (i : ℕ) (h : Here) → leads (icmPlan s i (h .undo .count)) h ≡ gone s (rangesFrom (s .books) i) h
+    unfolding icmPlan
+    icm-leads s i h =
+        row-leads s (k.FreeIcm (i + 1)) (λ m. bufferOf (icmAt (s .books .lists .icm) m)) i (s .books .lists .ranges) _ h (areas (s .books)) (λ j. refl) (aux-leads s h) (ltb i (s .books .lists .ranges)) refl
 
-  give-leads : (s : Session) (c : Closing) (h : Here) → leads (givePlan s c (h .undo .count)) h ≡ q.giving (s .info) (s .failure) c (s .books) h
-  unfolding q.giving
-  give-leads s c h = lent-leads (closesOf s c (s .books)) 0 h
+    lent-leads : (s : Session) (i : ℕ) (h : Here) → leads (lentPlan s i (h .undo .count)) h ≡ gone s (lendsFrom (s .books) i) h
+    unfolding lentPlan
+    lent-leads s i h =
+        row-leads s (k.FreeLent (i + 1)) (λ m. bufferAt (s .books .lists .lent) m) i (s .books .lists .lends) _ h (rangesFrom (s .books) 0) (λ j. refl) (icm-leads s 0 h) (ltb i (s .books .lists .lends)) refl
 
-  reset-leads : (s : Session) (h : Here) → leads (resetPlan s (h .undo .count)) h ≡ q.resetting (s .info) (s .failure) (s .books) h
-  unfolding q.resetting closeCourse
-  reset-leads s h = run-turned neither (resetScript started) (λ x. e.Reset x) _ h
+    give-leads : (s : Session) (c : Closing) (h : Here) → leads (givePlan s c (h .undo .count)) h ≡ q.giving (s .info) (s .failure) c (s .books) h
+    unfolding q.giving
+    give-leads s c h = lent-leads (closesOf s c (s .books)) 0 h
 
-  stopped-leads : (s : Session) (h : Here) → leads (stoppedPlan s (h .undo .count)) h ≡ q.stopped (s .info) (s .failure) (s .books) h
-  unfolding q.stopped stoppedPlan
-  stopped-leads s h = pick-leads (s .books .wire .running) _ _ h _ _ (reset-leads s h) (give-leads s c.Clean h)
+    reset-leads : (s : Session) (h : Here) → leads (resetPlan s (h .undo .count)) h ≡ q.resetting (s .info) (s .failure) (s .books) h
+    unfolding q.resetting closeCourse
+    reset-leads s h = run-turned neither (resetScript started) (λ x. e.Reset x) _ h
 
-  -- a command, and what follows a good one
-  module _ (s : Session) (st : Close) (p : Post) (next : Books → Here → Course Rest) (a : (y : CmdEnd) (j : Here) → afterClose st (sendsOf s (g.Close st) p) (e.Cmd y) j ≡ then s (e.Cmd y) next j) where
-    send-leads : (h : Here) (n : ℕ) → leads (planned (sendsOf s (g.Close st) p) w.Nothing n) h
-        ≡ sends (s .books) p (q.onward (s .info) (s .failure) next) (planHere (planned (sendsOf s (g.Close st) p) w.Nothing n) h)
-    unfolding closeCourse cmdScript
-    send-leads h n =
-        run-turned neither (cmdScript (h .inbox) (first p (s .books .wire .toggle) (catasFor (s .books .wire)))) (λ x. e.Cmd x) _ _
-        ∙ run-same neither (command (catasFor (s .books .wire)) (h .inbox) (s .books .wire .toggle) p) _ _ _ a
+    stopped-leads : (s : Session) (h : Here) → leads (stoppedPlan s (h .undo .count)) h ≡ q.stopped (s .info) (s .failure) (s .books) h
+    unfolding q.stopped stoppedPlan
+    stopped-leads s h = pick-leads (s .books .wire .running) _ _ h _ _ (reset-leads s h) (give-leads s c.Clean h)
 
-  unmap-fa-leads : (s : Session) (h : Here) → leads (unmapFaPlan s (h .undo .count)) h ≡ q.unmapFa (s .info) (s .failure) (s .books) h
-  unfolding q.unmapFa unmapFaPlan
-  unmap-fa-leads s h =
-      pick-leads (isHeld (s .books .held .fa)) _ _ h _ _
-      (send-leads s k.UnmapFa (immOf 0xffe 0 0 0) (q.stopped (s .info) (s .failure)) (λ y j. refl) h (h .undo .count)) (stopped-leads s h)
+    -- a command, and what follows a good one
+    module _ (s : Session) (st : Close) (p : Post) (next : Books → Here → Course Rest) (a : (y : CmdEnd) (j : Here) → afterClose st (sendsOf s (g.Close st) p) (e.Cmd y) j ≡ then s (e.Cmd y) next j) where
+      send-leads : (h : Here) (n : ℕ) → leads (planned (sendsOf s (g.Close st) p) w.Nothing n) h
+          ≡ sends (s .books) p (q.onward (s .info) (s .failure) next) (planHere (planned (sendsOf s (g.Close st) p) w.Nothing n) h)
+      unfolding closeCourse cmdScript
+      send-leads h n =
+          run-turned neither (cmdScript (h .inbox) (first p (s .books .wire .toggle) (catasFor (s .books .wire)))) (λ x. e.Cmd x) _ _
+          ∙ run-same neither (command (catasFor (s .books .wire)) (h .inbox) (s .books .wire .toggle) p) _ _ _ a
 
-  unmap-aux-leads : (s : Session) (h : Here) → leads (unmapAuxPlan s (h .undo .count)) h ≡ q.unmapAux (s .info) (s .failure) (s .books) h
-  unfolding q.unmapAux unmapAuxPlan
-  unmap-aux-leads s h =
-      pick-leads (isHeld (s .books .held .aux)) _ _ h _ _
-      (send-leads s k.UnmapAux (immOf 0xffb 0 0 0) (q.unmapFa (s .info) (s .failure)) (λ y j. refl) h (h .undo .count)) (unmap-fa-leads s h)
+    unmap-fa-leads : (s : Session) (h : Here) → leads (unmapFaPlan s (h .undo .count)) h ≡ q.unmapFa (s .info) (s .failure) (s .books) h
+    unfolding q.unmapFa unmapFaPlan
+    unmap-fa-leads s h =
+        pick-leads (isHeld (s .books .held .fa)) _ _ h _ _
+        (send-leads s k.UnmapFa (immOf 0xffe 0 0 0) (q.stopped (s .info) (s .failure)) (λ y j. refl) h (h .undo .count)) (stopped-leads s h)
 
-  unmap-leads : (s : Session) (i : ℕ) (h : Here) → leads (unmapPlan s i (h .undo .count)) h ≡ q.unmapping (s .info) (s .failure) i (s .books) h
-  unfolding q.unmapping unmapPlan
-  unmap-leads s zero h = unmap-aux-leads s h
-  unmap-leads s (suc i) h = send-leads s (k.Unmap i) _ (q.unmapping (s .info) (s .failure) i) (λ y j. refl) h (h .undo .count)
+    unmap-aux-leads : (s : Session) (h : Here) → leads (unmapAuxPlan s (h .undo .count)) h ≡ q.unmapAux (s .info) (s .failure) (s .books) h
+    unfolding q.unmapAux unmapAuxPlan
+    unmap-aux-leads s h =
+        pick-leads (isHeld (s .books .held .aux)) _ _ h _ _
+        (send-leads s k.UnmapAux (immOf 0xffb 0 0 0) (q.unmapFa (s .info) (s .failure)) (λ y j. refl) h (h .undo .count)) (unmap-fa-leads s h)
 
-  close-leads : (s : Session) (h : Here) → leads (closeHcaPlan s (h .undo .count)) h ≡ q.closeHca (s .info) (s .failure) (s .books) h
-  unfolding q.closeHca closeHcaPlan
-  close-leads s h =
-      pick-leads (s .books .started) _ _ h _ _
-      (send-leads s k.CloseHca (immOf 0x008 0 0 0) (q.unmapping (s .info) (s .failure) (s .books .lists .ranges)) (λ y j. refl) h (h .undo .count))
-      (unmap-leads s (s .books .lists .ranges) h)
+    unmap-leads : (s : Session) (i : ℕ) (h : Here) → leads (unmapPlan s i (h .undo .count)) h ≡ q.unmapping (s .info) (s .failure) i (s .books) h
+    unfolding q.unmapping unmapPlan
+    unmap-leads s zero h = unmap-aux-leads s h
+    unmap-leads s (suc i) h = send-leads s (k.Unmap i) _ (q.unmapping (s .info) (s .failure) i) (λ y j. refl) h (h .undo .count)
 
-  undo-leads : (s : Session) (m : ℕ) (h : Here) → leads (undoPlan s m (h .undo)) h ≡ q.undoing (s .info) (s .failure) m (s .books) h
-  unfolding q.undoing undoPlan
-  undo-leads s zero h = pick-leads (eqb (h .undo .count) 0) _ _ h _ _ (close-leads s h) (reset-leads s h)
-  undo-leads s (suc m) h =
-      pick-leads (eqb (h .undo .count) 0) _ _ h _ _ (close-leads s h)
-      (pick-leads (isReserved (h .undo .op)) _ _ h _ _ (reset-leads s h)
-      (send-leads s (k.Undo m) (undoPost (h .undo)) (q.undoing (s .info) (s .failure) m) (λ y j. refl) h (h .undo .count - 1)))
+    close-leads : (s : Session) (h : Here) → leads (closeHcaPlan s (h .undo .count)) h ≡ q.closeHca (s .info) (s .failure) (s .books) h
+    unfolding q.closeHca closeHcaPlan
+    close-leads s h =
+        pick-leads (s .books .started) _ _ h _ _
+        (send-leads s k.CloseHca (immOf 0x008 0 0 0) (q.unmapping (s .info) (s .failure) (s .books .lists .ranges)) (λ y j. refl) h (h .undo .count))
+        (unmap-leads s (s .books .lists .ranges) h)
 
-  pub stop-leads : (s : Session) (h : Here) → leads (stopPlan s (h .undo)) h ≡ q.stopping (s .info) (s .failure) (s .books) h
-  unfolding q.stopping stopPlan
-  stop-leads s h = pick-leads (s .books .wire .broken) _ _ h _ _ (reset-leads s h) (undo-leads s UNDOS h)
+    undo-leads : (s : Session) (m : ℕ) (h : Here) → leads (undoPlan s m (h .undo)) h ≡ q.undoing (s .info) (s .failure) m (s .books) h
+    unfolding q.undoing undoPlan
+    undo-leads s zero h = pick-leads (eqb (h .undo .count) 0) _ _ h _ _ (close-leads s h) (reset-leads s h)
+    undo-leads s (suc m) h =
+        pick-leads (eqb (h .undo .count) 0) _ _ h _ _ (close-leads s h)
+        (pick-leads (isReserved (h .undo .op)) _ _ h _ _ (reset-leads s h)
+        (send-leads s (k.Undo m) (undoPost (h .undo)) (q.undoing (s .info) (s .failure) m) (λ y j. refl) h (h .undo .count - 1)))
 
-  -- WHEN A TASK OF THE CLOSING HAS ENDED, the plan leads where the course goes on
-  pub close-lands : (st : Close) (s : Session) (y : End) (h : Here) → leads (closePlan s st y (h .undo)) h ≡ afterClose st s y h
-  unfolding closePlan
-  close-lands (k.Undo m) s y h = pick-leads (isDone (cmdIn y .result)) _ _ h _ _ (undo-leads (tookOf s (cmdIn y)) m h) (reset-leads (tookOf s (cmdIn y)) h)
-  close-lands k.CloseHca s y h = pick-leads (isDone (cmdIn y .result)) _ _ h _ _ (unmap-leads (tookOf s (cmdIn y)) (s .books .lists .ranges) h) (reset-leads (tookOf s (cmdIn y)) h)
-  close-lands (k.Unmap i) s y h = pick-leads (isDone (cmdIn y .result)) _ _ h _ _ (unmap-leads (tookOf s (cmdIn y)) i h) (reset-leads (tookOf s (cmdIn y)) h)
-  close-lands k.UnmapAux s y h = pick-leads (isDone (cmdIn y .result)) _ _ h _ _ (unmap-fa-leads (tookOf s (cmdIn y)) h) (reset-leads (tookOf s (cmdIn y)) h)
-  close-lands k.UnmapFa s y h = pick-leads (isDone (cmdIn y .result)) _ _ h _ _ (stopped-leads (tookOf s (cmdIn y)) h) (reset-leads (tookOf s (cmdIn y)) h)
-  close-lands k.Reset s y h = pick-leads (isGood (resetIn y)) _ _ h _ _ (give-leads s c.Reset h) (release-leads (closesOf s c.Kept (s .books)) h)
-  close-lands (k.FreeLent i) s y h = lent-leads s i h
-  close-lands (k.FreeIcm i) s y h = icm-leads s i h
-  close-lands k.FreeAux s y h = fa-leads s h
-  close-lands k.FreeFa s y h = inbox-leads s h
-  close-lands k.FreeInbox s y h = outbox-leads s h
-  close-lands k.FreeOutbox s y h = given-leads s h
-  close-lands k.Release s y h = restore-leads s h
-  close-lands k.Restore s y h = refl
+    pub stop-leads : (s : Session) (h : Here) → leads (stopPlan s (h .undo)) h ≡ q.stopping (s .info) (s .failure) (s .books) h
+    unfolding q.stopping stopPlan
+    stop-leads s h = pick-leads (s .books .wire .broken) _ _ h _ _ (reset-leads s h) (undo-leads s UNDOS h)
+
+    -- WHEN A TASK OF THE CLOSING HAS ENDED, the plan leads where the course goes on
+    pub close-lands : (st : Close) (s : Session) (y : End) (h : Here) → leads (closePlan s st y (h .undo)) h ≡ afterClose st s y h
+    unfolding closePlan
+    close-lands (k.Undo m) s y h = pick-leads (isDone (cmdIn y .result)) _ _ h _ _ (undo-leads (tookOf s (cmdIn y)) m h) (reset-leads (tookOf s (cmdIn y)) h)
+    close-lands k.CloseHca s y h = pick-leads (isDone (cmdIn y .result)) _ _ h _ _ (unmap-leads (tookOf s (cmdIn y)) (s .books .lists .ranges) h) (reset-leads (tookOf s (cmdIn y)) h)
+    close-lands (k.Unmap i) s y h = pick-leads (isDone (cmdIn y .result)) _ _ h _ _ (unmap-leads (tookOf s (cmdIn y)) i h) (reset-leads (tookOf s (cmdIn y)) h)
+    close-lands k.UnmapAux s y h = pick-leads (isDone (cmdIn y .result)) _ _ h _ _ (unmap-fa-leads (tookOf s (cmdIn y)) h) (reset-leads (tookOf s (cmdIn y)) h)
+    close-lands k.UnmapFa s y h = pick-leads (isDone (cmdIn y .result)) _ _ h _ _ (stopped-leads (tookOf s (cmdIn y)) h) (reset-leads (tookOf s (cmdIn y)) h)
+    close-lands k.Reset s y h = pick-leads (isGood (resetIn y)) _ _ h _ _ (give-leads s c.Reset h) (release-leads (closesOf s c.Kept (s .books)) h)
+    close-lands (k.FreeLent i) s y h = lent-leads s i h
+    close-lands (k.FreeIcm i) s y h = icm-leads s i h
+    close-lands k.FreeAux s y h = fa-leads s h
+    close-lands k.FreeFa s y h = inbox-leads s h
+    close-lands k.FreeInbox s y h = outbox-leads s h
+    close-lands k.FreeOutbox s y h = given-leads s h
+    close-lands k.Release s y h = restore-leads s h
+    close-lands k.Restore s y h = refl

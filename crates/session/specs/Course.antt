@@ -3,7 +3,7 @@
 use Prim.Native.Nat.{ℕ}
 use mathlib.Core.Bool.{Bool, true, false}
 use mathlib.Core.List.{List}
-use lib.ListN.{replicate}
+use lib.ListN.{length, replicate}
 use Rattle.pci.specs.Script.{Script, Ask, Reply, Bus, good, failed, configRead16, configRead32, configWrite16, configWrite32, read, write, attributes, resource, stall, allocate, mapped, unmap, free, fence}
 use Rattle.pci.specs.Script as s
 use Rattle.hcr.specs.declared.Post.{Post}
@@ -49,8 +49,9 @@ left h = record { inbox = h .inbox; outbox = h .outbox; undo = h .undo .count }
 abbrev pub lent : Here → Lent → Here
 lent h l = here (h .inbox) (l .outbox) (l .undo)
 
-abbrev pub zeros : List ℕ
-zeros = replicate 4096 0
+-- a mailbox with all its bytes 0
+abbrev pub blank : List ℕ → List ℕ
+blank s = replicate (length s) 0
 
 -- "two lent slices of 4,096 bytes, inbox and outbox, zeroed when their buffers are allocated": which one a buffer is for, if any
 pub data Box : Type 0 where
@@ -60,8 +61,8 @@ pub data Box : Type 0 where
 
 abbrev pub zeroed : Box → Here → Here
 zeroed neither h = h
-zeroed inbox h = here zeros (h .outbox) (h .undo)
-zeroed outbox h = here (h .inbox) zeros (h .undo)
+zeroed inbox h = here (blank (h .inbox)) (h .outbox) (h .undo)
+zeroed outbox h = here (h .inbox) (blank (h .outbox)) (h .undo)
 
 abbrev pub onAllocated : Box → Bus ℕ → Here → Here
 onAllocated b (good v) h = zeroed b h

@@ -1,0 +1,3 @@
+pub mod Values
+pub mod Opening
+pub mod Plan

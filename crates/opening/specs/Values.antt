@@ -1,0 +1,164 @@
+-- What an opening notes as it goes: in the books, and of what the card says.
+use Prim.Native.Nat.{ℕ, _+_, _*_}
+use mathlib.Core.Bool.{Bool, true, false}
+use mathlib.Core.List.{List, [], _∷_}
+use lib.Dec.{eqb, ltb}
+use lib.ListN.{getD, set}
+use Rattle.fields.specs.Outcome.{Outcome, value, refused, valueOr, pick}
+use Rattle.bars.specs.declared.Pick.{Pick}
+use Rattle.dma.specs.declared.Buffer.{Buffer}
+use Rattle.dma.specs.declared.Virt.{Virt}
+use Rattle.dma.specs.declared.Virt.the-variants as v
+use Rattle.dma.specs.declared.Cutter.{Cutter}
+use Rattle.pci.specs.declared.Refusal.{Refusal}
+use Rattle.pci.specs.declared.Refusal.the-variants as x
+use Rattle.reply.specs.declared.DevCap.{DevCap}
+use Rattle.reply.specs.declared.FwInfo.{FwInfo}
+use Rattle.reply.specs.declared.FuncInfo.{FuncInfo}
+use Rattle.reply.specs.declared.PortInfo.{PortInfo}
+use Rattle.layout.specs.Layout.{noLayout}
+use Rattle.layout.specs.Counts.{profileOf}
+use Rattle.layout.specs.declared.Layout.{Layout}
+use Rattle.layout.specs.declared.Range.{Range}
+use Rattle.command.specs.declared.CmdResult.{CmdResult}
+use Rattle.command.specs.declared.CmdResult.the-variants as r
+use Rattle.command.specs.declared.Catas.the-variants as k
+use Rattle.buffer.specs.declared.Fault.{Fault}
+use Rattle.buffer.specs.declared.Fault.the-variants as f
+use Rattle.session.specs.Session.{books, wired, holding, listing, bytesIn}
+use Rattle.session.specs.declared.Hold.the-variants as o
+use Rattle.session.specs.declared.Icm.{Icm}
+use Rattle.session.specs.declared.Wire.{Wire}
+use Rattle.session.specs.declared.Lists.{Lists}
+use Rattle.session.specs.declared.Books.{Books}
+use Rattle.session.specs.declared.Info.{Info}
+use Rattle.session.specs.declared.Area.{Area}
+use Rattle.session.specs.declared.Area.the-variants as a
+
+-- REFUSALS. The refusal of a number and its values: those that a reply or a layout can be refused with
+abbrev pub first : List ℕ → ℕ
+first [] = 0
+first (n ∷ ns) = n
+
+abbrev pub refusalOf : ℕ → List ℕ → Refusal
+refusalOf n vs =
+    pick (eqb n 11) (x.Revision (first vs))
+    (pick (eqb n 12) (x.MinPage (first vs))
+    (pick (eqb n 13) (x.Ports (first vs))
+    (pick (eqb n 14) (x.Uar (first vs))
+    (pick (eqb n 15) (x.UarArea (first vs))
+    (pick (eqb n 16) (x.Entry (first vs))
+    (pick (eqb n 17) (x.Total (first vs)) x.Short))))))
+
+-- a buffer that was not to be had: 5 or 18
+abbrev pub faultOf : Fault → Refusal
+faultOf f.Memory = x.Memory
+faultOf f.Address = x.Address
+
+-- a command that was not good: 6, 7, 8 or 9, and whether the card needs a reset then, which every failure but a status says
+abbrev pub failureOf : CmdResult → Refusal
+failureOf (r.Done y us) = x.Bus us
+failureOf (r.Status s us) = x.Status s us
+failureOf (r.Timeout us) = x.Timeout us
+failureOf r.Busy = x.Busy
+failureOf (r.Bus us) = x.Bus us
+
+abbrev pub needsReset : CmdResult → Bool
+needsReset (r.Done y us) = false
+needsReset (r.Status s us) = false
+needsReset (r.Timeout us) = true
+needsReset r.Busy = true
+needsReset (r.Bus us) = true
+
+-- "10 QUERY_FW status 0x50 in an opening"
+abbrev pub fwFailureOf : CmdResult → Refusal
+fwFailureOf (r.Done y us) = x.Bus us
+fwFailureOf (r.Status s us) = pick (eqb s 0x50) x.NotPrimary (x.Status s us)
+fwFailureOf (r.Timeout us) = x.Timeout us
+fwFailureOf r.Busy = x.Busy
+fwFailureOf (r.Bus us) = x.Bus us
+
+-- the immediate of a good command
+abbrev pub immediateOf : CmdResult → ℕ
+immediateOf (r.Done y us) = y
+immediateOf (r.Status s us) = 0
+immediateOf (r.Timeout us) = 0
+immediateOf r.Busy = 0
+immediateOf (r.Bus us) = 0
+
+-- THE BOOKS
+abbrev pub withToggle : Books → Bool → Books
+withToggle b t = wired b (record { toggle = t; running = b .wire .running; broken = b .wire .broken; silent = b .wire .silent; catas = b .wire .catas })
+
+-- the catastrophic buffer is known
+abbrev pub withCatas : Books → FwInfo → Books
+withCatas b i =
+    wired b (record { toggle = b .wire .toggle; running = b .wire .running; broken = b .wire .broken; silent = b .wire .silent; catas = k.Known (i .«catas_bar») (i .«catas_offset») })
+
+abbrev pub withOriginal : Books → ℕ → Books
+withOriginal b v = books (b .wire) (b .held) (b .lists) (b .started) v
+
+abbrev pub withInbox : Books → Buffer → Books
+withInbox b y = holding b (record { inbox = o.Held y; outbox = b .held .outbox; fa = b .held .fa; aux = b .held .aux })
+
+abbrev pub withOutbox : Books → Buffer → Books
+withOutbox b y = holding b (record { inbox = b .held .inbox; outbox = o.Held y; fa = b .held .fa; aux = b .held .aux })
+
+-- INIT_HCA was seen good
+abbrev pub nowStarted : Books → Books
+nowStarted b = books (b .wire) (b .held) (b .lists) true (b .original)
+
+-- one range more; the layout has fourteen, and there is room for no more
+abbrev pub appended : Lists → Icm → Lists
+appended l e =
+    pick (ltb (l .ranges) 14) (record { icm = set (l .icm) (l .ranges) e; ranges = l .ranges + 1; lent = l .lent; lends = l .lends }) l
+
+-- THE LAYOUT of the card's capabilities, and its ranges
+abbrev pub layoutIn : Info → Layout
+layoutIn n = valueOr noLayout (profileOf (n .cap))
+
+abbrev pub noRange : Range
+noRange = record { virt = 0; bytes = 0 }
+
+abbrev pub rangeAt : Info → ℕ → Range
+rangeAt n i = getD (layoutIn n .ranges) i noRange
+
+-- an area's card address, its command, and the buffer in the books
+abbrev pub virtFor : Info → Area → Virt
+virtFor n a.Fa = v.Absent
+virtFor n a.Aux = v.Absent
+virtFor n (a.Range i) = v.At (rangeAt n i .virt)
+
+abbrev pub opFor : Area → ℕ
+opFor a.Fa = 0xfff
+opFor a.Aux = 0xffc
+opFor (a.Range i) = 0xffa
+
+abbrev pub enters : Info → Area → Buffer → Books → Books
+enters n a.Fa y b = holding b (record { inbox = b .held .inbox; outbox = b .held .outbox; fa = o.Held y; aux = b .held .aux })
+enters n a.Aux y b = holding b (record { inbox = b .held .inbox; outbox = b .held .outbox; fa = b .held .fa; aux = o.Held y })
+enters n (a.Range i) y b = listing b (appended (b .lists) (record { virt = rangeAt n i .virt; handle = y .handle; dev = y .dev; pages = y .pages }))
+
+abbrev pub cutterFor : Info → Area → Buffer → Cutter
+cutterFor n a y = record { virt = virtFor n a; phys = y .dev; left = bytesIn y }
+
+-- WHAT THE CARD SAYS
+abbrev pub info : Pick → DevCap → FuncInfo → PortInfo → PortInfo → Bool → Info
+info u c f p q v = record { uar = u; cap = c; func = f; port1 = p; port2 = q; rev3 = v }
+
+abbrev pub withUar : Info → Pick → Info
+withUar n u = info u (n .cap) (n .func) (n .port1) (n .port2) (n .rev3)
+
+abbrev pub withRevision : Info → ℕ → Info
+withRevision n v = info (n .uar) (n .cap) (n .func) (n .port1) (n .port2) (eqb v 3)
+
+-- until QUERY_FUNC says otherwise, its three fields are the capability's
+abbrev pub withCap : Info → DevCap → Info
+withCap n c =
+    info (n .uar) c (record { «rsvd_eqs» = c .«rsvd_eqs»; «max_eqs» = c .«max_eqs»; «rsvd_uars» = c .«rsvd_uars» }) (n .port1) (n .port2) (n .rev3)
+
+abbrev pub withFunc : Info → FuncInfo → Info
+withFunc n i = info (n .uar) (n .cap) i (n .port1) (n .port2) (n .rev3)
+
+abbrev pub withPort : Info → ℕ → PortInfo → Info
+withPort n p i = pick (eqb p 1) (info (n .uar) (n .cap) (n .func) i (n .port2) (n .rev3)) (info (n .uar) (n .cap) (n .func) (n .port1) i (n .rev3))

@@ -1,0 +1,1 @@
+// Opening: what follows when one of its tasks has ended.
