@@ -8,9 +8,9 @@ use bars::Next;
 use bars::Pick;
 use bars::Size;
 
-pub const END: usize = 19;
+pub(crate) const END: usize = 19;
 
-pub fn answer(leaf: usize, args: &[u8], bytes: &[u8], out: &mut [u8]) -> bool {
+pub(crate) fn answer(leaf: usize, args: &[u8], bytes: &[u8], out: &mut [u8]) -> bool {
     match leaf {
         15 => base(args, out),
         16 => candidates(args, out),
