@@ -10,7 +10,7 @@ use crate::{openings, Input, Leaf};
 
 pub const LEAVES: &[Leaf] = &[
     Leaf { name: "layout", input: reply, rust: layout, proved: proved_layout },
-    Leaf { name: "init_hca", input: reply, rust: init_hca, proved: proved_init_hca },
+    Leaf { name: "init_hca", input: with_bar, rust: init_hca, proved: proved_init_hca },
     Leaf {
         name: "pow2",
         input: near_a_power,
@@ -48,6 +48,13 @@ fn reply(r: &mut Prng) -> Input {
     }
     let words = if r.one_in(4) { bar_words(r, &bytes) } else { vec![0, 0] };
     Input { words, bytes }
+}
+
+/// With the size of the UAR BAR known in every second one, mostly large enough.
+fn with_bar(r: &mut Prng) -> Input {
+    let mut i = reply(r);
+    i.words = bar_words(r, &i.bytes);
+    i
 }
 
 fn near_a_power(r: &mut Prng) -> Input {
