@@ -1,11 +1,10 @@
 // The command register as words.
-use crate::words;
+use answers::words;
 use hcr::Post;
-use hcr::RegWrite;
 ghost use mathlib.Core.Path.{_≡_};
 ghost use Rattle.hcr.specs.Words.{pendingIn, statusIn, firstToggle, goWord, swapOf, writesOf, stallOf, waitedOf, isReserved};
-ghost use Rattle.leaves.specs.Words.{said, answer};
-ghost use Rattle.leaves.specs.Command.{postOf, writesWords};
+ghost use Rattle.answers.specs.Words.{said, answer};
+ghost use Rattle.answers.specs.Command.{postOf, writesWords};
 
 #[no_mangle]
 pub extern "C" fn leaf_pending(status: u32, toggle: bool) -> bool
@@ -42,34 +41,6 @@ pub extern "C" fn leaf_swap(x: u32) -> u32
     hcr::swap(x)
 }
 
-fn writes_words(w: [RegWrite; 7]) -> [u64; 14]
-    ensures { λ r. ⌜ r ≡ writesWords w ⌝ }
-{
-    let a = w[0];
-    let b = w[1];
-    let c = w[2];
-    let d = w[3];
-    let e = w[4];
-    let f = w[5];
-    let g = w[6];
-    [
-        a.offset,
-        words::wide32(a.value),
-        b.offset,
-        words::wide32(b.value),
-        c.offset,
-        words::wide32(c.value),
-        d.offset,
-        words::wide32(d.value),
-        e.offset,
-        words::wide32(e.value),
-        f.offset,
-        words::wide32(f.value),
-        g.offset,
-        words::wide32(g.value),
-    ]
-}
-
 // The seven writes that post a command, each as its offset and its value on the bus.
 #[no_mangle]
 pub extern "C" fn leaf_writes(
@@ -84,7 +55,7 @@ pub extern "C" fn leaf_writes(
     ensures { λ r. ⌜ r ≡ said 14 (now (out .entry)) ⌝ }
     ensures { λ _. ⌜ now (out .exit) ≡ answer 14 (now (out .entry)) (writesWords (writesOf toggle (postOf op «op_mod» «in_mod» «in_param» «out_param»))) ⌝ }
 {
-    let w = writes_words(hcr::writes(
+    let w = answers::command::writes_words(hcr::writes(
         toggle,
         Post {
             op,

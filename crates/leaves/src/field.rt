@@ -1,75 +1,14 @@
 // Fields of a slice: document 01's number (0 where there is none), then the value.
-use crate::words;
-use fields::Order;
-use fields::Read8;
-use fields::Read16;
-use fields::Read32;
-use fields::Read64;
-use fields::Written;
+use answers::words;
 ghost use mathlib.Core.Path.{_≡_};
 ghost use mathlib.Core.List.{[]};
-ghost use Prim.Native.Nat.{_+_};
 ghost use lib.ListN.{replicate, length};
 ghost use lib.Dec.{leb};
 ghost use Rattle.fields.specs.Outcome.{numberOf, pick, refused};
-ghost use Rattle.fields.specs.Fields.{fieldAt, writeAt, writtenAt, read8, read16, read32, read64, written};
+ghost use Rattle.fields.specs.Fields.{fieldAt, writeAt, writtenAt};
 ghost use Rattle.fields.specs.declared.Order.the-variants.{Big, Little};
-ghost use Rattle.leaves.specs.Words.{said, answer, numberWords};
-ghost use Rattle.leaves.specs.Fields.{orderOf};
-
-fn order(little: bool) -> Order
-    ensures { λ r. ⌜ r ≡ orderOf little ⌝ }
-{
-    if little {
-        return Order::Little;
-    }
-    Order::Big
-}
-
-fn words8(r: Read8) -> [u64; 2]
-    ensures { λ w. ⌜ w ≡ numberWords (read8 r) ⌝ }
-{
-    match r {
-        Read8::Value(v) => [0, v as u64],
-        Read8::Short => [21, 0],
-    }
-}
-
-fn words16(r: Read16) -> [u64; 2]
-    ensures { λ w. ⌜ w ≡ numberWords (read16 r) ⌝ }
-{
-    match r {
-        Read16::Value(v) => [0, v as u64],
-        Read16::Short => [21, 0],
-    }
-}
-
-fn words32(r: Read32) -> [u64; 2]
-    ensures { λ w. ⌜ w ≡ numberWords (read32 r) ⌝ }
-{
-    match r {
-        Read32::Value(v) => [0, v as u64],
-        Read32::Short => [21, 0],
-    }
-}
-
-fn words64(r: Read64) -> [u64; 2]
-    ensures { λ w. ⌜ w ≡ numberWords (read64 r) ⌝ }
-{
-    match r {
-        Read64::Value(v) => [0, v],
-        Read64::Short => [21, 0],
-    }
-}
-
-pub fn done(w: Written) -> u32
-    ensures { λ r. ⌜ r ≡ numberOf (written w) ⌝ }
-{
-    match w {
-        Written::Done => 0,
-        Written::Short => 21,
-    }
-}
+ghost use Rattle.answers.specs.Words.{said, answer, numberWords};
+ghost use Rattle.answers.specs.Fields.{orderOf};
 
 #[no_mangle]
 pub extern "C" fn leaf_field(
@@ -82,7 +21,7 @@ pub extern "C" fn leaf_field(
     ensures { λ r. ⌜ r ≡ said 2 (now (out .entry)) ⌝ }
     ensures { λ _. ⌜ now (out .exit) ≡ answer 2 (now (out .entry)) (numberWords (pick (leb width 8) (fieldAt (orderOf little) (now (s .entry)) off width) (refused 21 []))) ⌝ }
 {
-    let w = words64(fields::field(s, order(little), off, width));
+    let w = answers::field::words64(fields::field(s, answers::field::order(little), off, width));
     words::give(out, &w)
 }
 
@@ -91,7 +30,7 @@ pub extern "C" fn leaf_byte(s: &[u8], off: usize, out: &mut [u8]) -> u32
     ensures { λ r. ⌜ r ≡ said 2 (now (out .entry)) ⌝ }
     ensures { λ _. ⌜ now (out .exit) ≡ answer 2 (now (out .entry)) (numberWords (fieldAt Big (now (s .entry)) off 1)) ⌝ }
 {
-    let w = words8(fields::byte(s, off));
+    let w = answers::field::words8(fields::byte(s, off));
     words::give(out, &w)
 }
 
@@ -100,7 +39,7 @@ pub extern "C" fn leaf_be16(s: &[u8], off: usize, out: &mut [u8]) -> u32
     ensures { λ r. ⌜ r ≡ said 2 (now (out .entry)) ⌝ }
     ensures { λ _. ⌜ now (out .exit) ≡ answer 2 (now (out .entry)) (numberWords (fieldAt Big (now (s .entry)) off 2)) ⌝ }
 {
-    let w = words16(fields::be16(s, off));
+    let w = answers::field::words16(fields::be16(s, off));
     words::give(out, &w)
 }
 
@@ -109,7 +48,7 @@ pub extern "C" fn leaf_be32(s: &[u8], off: usize, out: &mut [u8]) -> u32
     ensures { λ r. ⌜ r ≡ said 2 (now (out .entry)) ⌝ }
     ensures { λ _. ⌜ now (out .exit) ≡ answer 2 (now (out .entry)) (numberWords (fieldAt Big (now (s .entry)) off 4)) ⌝ }
 {
-    let w = words32(fields::be32(s, off));
+    let w = answers::field::words32(fields::be32(s, off));
     words::give(out, &w)
 }
 
@@ -118,7 +57,7 @@ pub extern "C" fn leaf_be64(s: &[u8], off: usize, out: &mut [u8]) -> u32
     ensures { λ r. ⌜ r ≡ said 2 (now (out .entry)) ⌝ }
     ensures { λ _. ⌜ now (out .exit) ≡ answer 2 (now (out .entry)) (numberWords (fieldAt Big (now (s .entry)) off 8)) ⌝ }
 {
-    let w = words64(fields::be64(s, off));
+    let w = answers::field::words64(fields::be64(s, off));
     words::give(out, &w)
 }
 
@@ -127,7 +66,7 @@ pub extern "C" fn leaf_le16(s: &[u8], off: usize, out: &mut [u8]) -> u32
     ensures { λ r. ⌜ r ≡ said 2 (now (out .entry)) ⌝ }
     ensures { λ _. ⌜ now (out .exit) ≡ answer 2 (now (out .entry)) (numberWords (fieldAt Little (now (s .entry)) off 2)) ⌝ }
 {
-    let w = words16(fields::le16(s, off));
+    let w = answers::field::words16(fields::le16(s, off));
     words::give(out, &w)
 }
 
@@ -136,7 +75,7 @@ pub extern "C" fn leaf_le64(s: &[u8], off: usize, out: &mut [u8]) -> u32
     ensures { λ r. ⌜ r ≡ said 2 (now (out .entry)) ⌝ }
     ensures { λ _. ⌜ now (out .exit) ≡ answer 2 (now (out .entry)) (numberWords (fieldAt Little (now (s .entry)) off 8)) ⌝ }
 {
-    let w = words64(fields::le64(s, off));
+    let w = answers::field::words64(fields::le64(s, off));
     words::give(out, &w)
 }
 
@@ -151,7 +90,7 @@ pub extern "C" fn leaf_set_field(
     ensures { λ r. ⌜ r ≡ numberOf (writeAt (now (s .entry)) off width) ⌝ }
     ensures { λ _. ⌜ now (s .exit) ≡ writtenAt (orderOf little) (now (s .entry)) off width v ⌝ }
 {
-    done(fields::set_field(s, order(little), off, width, v))
+    answers::field::done(fields::set_field(s, answers::field::order(little), off, width, v))
 }
 
 #[no_mangle]
@@ -159,7 +98,7 @@ pub extern "C" fn leaf_set_byte(s: &mut [u8], off: usize, v: u8) -> u32
     ensures { λ r. ⌜ r ≡ numberOf (writeAt (now (s .entry)) off 1) ⌝ }
     ensures { λ _. ⌜ now (s .exit) ≡ writtenAt Big (now (s .entry)) off 1 v ⌝ }
 {
-    done(fields::set_byte(s, off, v))
+    answers::field::done(fields::set_byte(s, off, v))
 }
 
 #[no_mangle]
@@ -167,7 +106,7 @@ pub extern "C" fn leaf_set_be16(s: &mut [u8], off: usize, v: u16) -> u32
     ensures { λ r. ⌜ r ≡ numberOf (writeAt (now (s .entry)) off 2) ⌝ }
     ensures { λ _. ⌜ now (s .exit) ≡ writtenAt Big (now (s .entry)) off 2 v ⌝ }
 {
-    done(fields::set_be16(s, off, v))
+    answers::field::done(fields::set_be16(s, off, v))
 }
 
 #[no_mangle]
@@ -175,7 +114,7 @@ pub extern "C" fn leaf_set_be32(s: &mut [u8], off: usize, v: u32) -> u32
     ensures { λ r. ⌜ r ≡ numberOf (writeAt (now (s .entry)) off 4) ⌝ }
     ensures { λ _. ⌜ now (s .exit) ≡ writtenAt Big (now (s .entry)) off 4 v ⌝ }
 {
-    done(fields::set_be32(s, off, v))
+    answers::field::done(fields::set_be32(s, off, v))
 }
 
 #[no_mangle]
@@ -183,7 +122,7 @@ pub extern "C" fn leaf_set_be64(s: &mut [u8], off: usize, v: u64) -> u32
     ensures { λ r. ⌜ r ≡ numberOf (writeAt (now (s .entry)) off 8) ⌝ }
     ensures { λ _. ⌜ now (s .exit) ≡ writtenAt Big (now (s .entry)) off 8 v ⌝ }
 {
-    done(fields::set_be64(s, off, v))
+    answers::field::done(fields::set_be64(s, off, v))
 }
 
 #[no_mangle]
@@ -191,7 +130,7 @@ pub extern "C" fn leaf_set_le16(s: &mut [u8], off: usize, v: u16) -> u32
     ensures { λ r. ⌜ r ≡ numberOf (writeAt (now (s .entry)) off 2) ⌝ }
     ensures { λ _. ⌜ now (s .exit) ≡ writtenAt Little (now (s .entry)) off 2 v ⌝ }
 {
-    done(fields::set_le16(s, off, v))
+    answers::field::done(fields::set_le16(s, off, v))
 }
 
 #[no_mangle]
@@ -199,7 +138,7 @@ pub extern "C" fn leaf_set_le64(s: &mut [u8], off: usize, v: u64) -> u32
     ensures { λ r. ⌜ r ≡ numberOf (writeAt (now (s .entry)) off 8) ⌝ }
     ensures { λ _. ⌜ now (s .exit) ≡ writtenAt Little (now (s .entry)) off 8 v ⌝ }
 {
-    done(fields::set_le64(s, off, v))
+    answers::field::done(fields::set_le64(s, off, v))
 }
 
 #[no_mangle]

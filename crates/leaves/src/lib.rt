@@ -7,4 +7,3 @@ pub mod mailboxes;
 pub mod memory;
 pub mod replies;
 pub mod tables;
-pub mod words;

@@ -1,14 +1,14 @@
 // The mailboxes that bring-up fills field by field.
-use crate::field;
-use crate::replies;
-use crate::tables;
+use answers::field;
+use answers::replies;
+use answers::tables;
 ghost use mathlib.Core.Path.{_≡_};
 ghost use Rattle.fields.specs.Outcome.{numberOf, valueOr};
 ghost use Rattle.reply.specs.Capability.{capabilityOf, noCaps};
 ghost use Rattle.layout.specs.Layout.{noLayout};
 ghost use Rattle.init.specs.Init.{fillOf, filledBy, fieldsOf, initOf, modStatCfg};
-ghost use Rattle.leaves.specs.Replies.{sizeFrom};
-ghost use Rattle.leaves.specs.Tables.{layoutFor};
+ghost use Rattle.answers.specs.Replies.{sizeFrom};
+ghost use Rattle.answers.specs.Tables.{layoutFor};
 
 // INIT_HCA for a capability reply, with the UAR BAR's size known or not. A reply that is refused counts as one with no capabilities and no tables.
 #[no_mangle]

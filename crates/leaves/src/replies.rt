@@ -1,117 +1,12 @@
 // The card's replies: document 01's number, the value beside it, then the fields.
-use crate::words;
-use bars::Size;
-use reply::CapCheck;
-use reply::Capability;
-use reply::DevCap;
-use reply::FuncReply;
-use reply::FwCheck;
-use reply::FwReply;
-use reply::PortReply;
+use answers::words;
 ghost use mathlib.Core.Path.{_≡_};
 ghost use mathlib.Core.Bool.{_&&_};
-ghost use Rattle.fields.specs.Outcome.{valueOr, numberOf, pick};
-ghost use Rattle.reply.specs.Capability.{capability, capabilityOf, refusedBy, noCaps, bit as bitIn};
-ghost use Rattle.reply.specs.Replies.{queryFw, queryFwOf, fwHeld, fwBy, noFw, queryPort, queryPortOf, noPort, queryFunc, queryFuncOf};
-ghost use Rattle.leaves.specs.Words.{said, answer};
-ghost use Rattle.leaves.specs.Replies.{sizeFrom, codeOf, capWords, fwWords, portWords, funcWords};
-
-// A refusal's number and the value beside it; 0 where there is none.
-pub struct Code {
-    pub number: u64,
-    pub beside: u64,
-}
-
-impl Code {
-    pub const GOOD: u64 = 0;
-
-    pub const SHORT: u64 = 21;
-}
-
-pub fn size_from(known: bool, bytes: u64) -> Size
-    ensures { λ r. ⌜ r ≡ sizeFrom known bytes ⌝ }
-{
-    if known {
-        return Size::Known(bytes);
-    }
-    Size::Unknown
-}
-
-pub fn cap_code(k: CapCheck) -> Code
-    ensures { λ r. ⌜ r ≡ codeOf (refusedBy k noCaps) ⌝ }
-{
-    match k {
-        CapCheck::Good => Code {
-            number: Code::GOOD,
-            beside: 0,
-        },
-        CapCheck::Short => Code {
-            number: Code::SHORT,
-            beside: 0,
-        },
-        CapCheck::MinPage(e) => Code {
-            number: 12,
-            beside: e as u64,
-        },
-        CapCheck::Ports(n) => Code {
-            number: 13,
-            beside: n as u64,
-        },
-        CapCheck::Uar(f) => Code {
-            number: 14,
-            beside: f as u64,
-        },
-        CapCheck::UarArea(a) => Code {
-            number: 15,
-            beside: a,
-        },
-    }
-}
-
-fn cap_words(r: Capability) -> [u64; 34]
-    ensures { λ w. ⌜ w ≡ capWords (codeOf (refusedBy (r .check) noCaps)) (r .cap) ⌝ }
-{
-    let k = r.check;
-    let code = cap_code(k);
-    let c = r.cap;
-    let e = c.entry;
-    [
-        code.number,
-        code.beside,
-        words::wide16(c.rsvd_qps),
-        words::wide16(c.rsvd_srqs),
-        words::wide16(c.rsvd_cqs),
-        words::wide16(c.rsvd_eqs),
-        words::wide16(c.max_eqs),
-        words::wide16(c.rsvd_mtts),
-        words::wide16(c.rsvd_mpts),
-        words::wide8(c.rsvd_uars),
-        words::wide8(c.rsvd_pds),
-        words::wide16(c.num_sys_eqs),
-        words::wide8(c.ports),
-        words::wide8(c.log_max_qp_wqes),
-        words::wide8(c.log_max_cqes),
-        words::wide8(c.log_min_page),
-        c.flags,
-        words::wide32(c.flags2),
-        words::wide32(c.bmme),
-        words::bit_of(c.eth_prot_ctrl),
-        words::bit_of(c.eth_backpl_an_rep),
-        c.uar_bytes,
-        c.max_icm,
-        words::wide16(e[0]),
-        words::wide16(e[1]),
-        words::wide16(e[2]),
-        words::wide16(e[3]),
-        words::wide16(e[4]),
-        words::wide16(e[5]),
-        words::wide16(e[6]),
-        words::wide16(e[7]),
-        words::wide16(e[8]),
-        words::wide16(e[9]),
-        words::wide16(e[10]),
-    ]
-}
+ghost use Rattle.fields.specs.Outcome.{valueOr, numberOf};
+ghost use Rattle.reply.specs.Capability.{capability, capabilityOf, noCaps, bit as bitIn};
+ghost use Rattle.reply.specs.Replies.{queryFwOf, fwHeld, queryPortOf, noPort, queryFuncOf};
+ghost use Rattle.answers.specs.Words.{said, answer};
+ghost use Rattle.answers.specs.Replies.{sizeFrom, codeOf, capWords, fwWords, portWords, funcWords};
 
 // The capability reply, with the UAR BAR's size known or not.
 #[no_mangle]
@@ -119,17 +14,11 @@ pub extern "C" fn leaf_dev_cap(reply: &[u8], known: bool, bar: u64, out: &mut [u
     ensures { λ r. ⌜ r ≡ said 34 (now (out .entry)) ⌝ }
     ensures { λ _. ⌜ now (out .exit) ≡ answer 34 (now (out .entry)) (capWords (codeOf (capabilityOf (now (reply .entry)) (sizeFrom known bar))) (valueOr noCaps (capabilityOf (now (reply .entry)) (sizeFrom known bar)))) ⌝ }
 {
-    let w = cap_words(reply::dev_cap(reply, size_from(known, bar)));
+    let w = answers::replies::cap_words(reply::dev_cap(
+        reply,
+        answers::replies::size_from(known, bar),
+    ));
     words::give(out, &w)
-}
-
-fn caps_with(flags: u64) -> DevCap
-    ensures { λ r. ⌜ r .flags ≡ flags ⌝ }
-{
-    DevCap {
-        flags,
-        ..DevCap::none()
-    }
 }
 
 // Whether flags have the capability of this number, and whether they have both for B0 steering.
@@ -137,55 +26,14 @@ fn caps_with(flags: u64) -> DevCap
 pub extern "C" fn leaf_flag(flags: u64, number: u8) -> bool
     ensures { λ r. ⌜ r ≡ bitIn number flags ⌝ }
 {
-    caps_with(flags).flag(number)
+    answers::replies::caps_with(flags).flag(number)
 }
 
 #[no_mangle]
 pub extern "C" fn leaf_b0(flags: u64) -> bool
     ensures { λ r. ⌜ r ≡ bitIn 41 flags && bitIn 42 flags ⌝ }
 {
-    caps_with(flags).b0()
-}
-
-fn fw_code(k: FwCheck) -> Code
-    ensures { λ r. ⌜ r ≡ codeOf (fwBy k noFw) ⌝ }
-{
-    match k {
-        FwCheck::Good => Code {
-            number: Code::GOOD,
-            beside: 0,
-        },
-        FwCheck::Short => Code {
-            number: Code::SHORT,
-            beside: 0,
-        },
-        FwCheck::Revision(r) => Code {
-            number: 11,
-            beside: r as u64,
-        },
-    }
-}
-
-fn fw_words(r: FwReply) -> [u64; 12]
-    ensures { λ w. ⌜ w ≡ fwWords (codeOf (fwBy (r .check) noFw)) (r .info) ⌝ }
-{
-    let k = r.check;
-    let code = fw_code(k);
-    let i = r.info;
-    [
-        code.number,
-        code.beside,
-        words::wide16(i.pages),
-        words::wide16(i.major),
-        words::wide16(i.subminor),
-        words::wide16(i.minor),
-        words::wide8(i.ppf),
-        words::wide16(i.rev),
-        words::wide8(i.log_max_cmds),
-        i.catas_offset,
-        words::wide32(i.catas_size),
-        words::wide8(i.catas_bar),
-    ]
+    answers::replies::caps_with(flags).b0()
 }
 
 #[no_mangle]
@@ -193,41 +41,8 @@ pub extern "C" fn leaf_query_fw(reply: &[u8], bar: u8, out: &mut [u8]) -> u32
     ensures { λ r. ⌜ r ≡ said 12 (now (out .entry)) ⌝ }
     ensures { λ _. ⌜ now (out .exit) ≡ answer 12 (now (out .entry)) (fwWords (codeOf (queryFwOf (now (reply .entry)) bar)) (fwHeld (now (reply .entry)) bar)) ⌝ }
 {
-    let w = fw_words(reply::query_fw(reply, bar));
+    let w = answers::replies::fw_words(reply::query_fw(reply, bar));
     words::give(out, &w)
-}
-
-fn short_number(short: bool) -> u64
-    ensures { λ r. ⌜ r ≡ pick short 21 0 ⌝ }
-{
-    if short { Code::SHORT } else { Code::GOOD }
-}
-
-fn port_words(r: PortReply) -> [u64; 18]
-    ensures { λ w. ⌜ w ≡ portWords (pick (r .short) 21 0) (r .info) ⌝ }
-{
-    let i = r.info;
-    let m = i.mac;
-    [
-        short_number(r.short),
-        words::wide8(i.num),
-        words::bit_of(i.link_up),
-        words::wide8(i.b0),
-        words::wide16(i.mtu_cap),
-        words::wide8(i.log_macs),
-        words::wide8(m[0]),
-        words::wide8(m[1]),
-        words::wide8(m[2]),
-        words::wide8(m[3]),
-        words::wide8(m[4]),
-        words::wide8(m[5]),
-        words::bit_of(i.autoneg),
-        words::bit_of(i.an_complete),
-        words::wide8(i.speed),
-        words::wide32(i.xcvr),
-        words::wide16(i.wavelength),
-        i.xcvr_code,
-    ]
 }
 
 #[no_mangle]
@@ -235,17 +50,8 @@ pub extern "C" fn leaf_query_port(reply: &[u8], num: u8, out: &mut [u8]) -> u32
     ensures { λ r. ⌜ r ≡ said 18 (now (out .entry)) ⌝ }
     ensures { λ _. ⌜ now (out .exit) ≡ answer 18 (now (out .entry)) (portWords (numberOf (queryPortOf (now (reply .entry)) num)) (valueOr noPort (queryPortOf (now (reply .entry)) num))) ⌝ }
 {
-    let w = port_words(reply::query_port(reply, num));
+    let w = answers::replies::port_words(reply::query_port(reply, num));
     words::give(out, &w)
-}
-
-fn func_words(r: FuncReply) -> [u64; 4]
-    ensures { λ w. ⌜ w ≡ funcWords (queryFunc r) ⌝ }
-{
-    match r {
-        FuncReply::Good(i) => [0, i.rsvd_eqs as u64, i.max_eqs as u64, i.rsvd_uars as u64],
-        FuncReply::Short => [21, 0, 0, 0],
-    }
 }
 
 #[no_mangle]
@@ -253,6 +59,6 @@ pub extern "C" fn leaf_query_func(reply: &[u8], out: &mut [u8]) -> u32
     ensures { λ r. ⌜ r ≡ said 4 (now (out .entry)) ⌝ }
     ensures { λ _. ⌜ now (out .exit) ≡ answer 4 (now (out .entry)) (funcWords (queryFuncOf (now (reply .entry)))) ⌝ }
 {
-    let w = func_words(reply::query_func(reply));
+    let w = answers::replies::func_words(reply::query_func(reply));
     words::give(out, &w)
 }

@@ -8,9 +8,9 @@ use bars::Next;
 use bars::Pick;
 use bars::Size;
 
-pub const END: usize = 19;
+pub(crate) const END: usize = 19;
 
-pub fn answer(leaf: usize, args: &[u8], bytes: &[u8], out: &mut [u8]) -> bool {
+pub(crate) fn answer(leaf: usize, args: &[u8], bytes: &[u8], out: &mut [u8]) -> bool {
     match leaf {
         15 => base(args, out),
         16 => candidates(args, out),
@@ -75,7 +75,7 @@ fn ask(args: &[u8], first: u8, start: Choice, out: &mut [u8]) {
     let mut c = start;
     let mut n: usize = 5;
     while n < 16 {
-        words::put(out, n, leaves::words::wide8(index));
+        words::put(out, n, answers::words::wide8(index));
         match bars::step(c, stored(args, index)) {
             Next::Ask(i, next) => {
                 index = i;

@@ -4,11 +4,11 @@ use leaves::field;
 ghost use Prim.Native.Nat.{_+_, _≤_};
 ghost use lib.ListN.{length};
 
-pub const END: usize = 15;
+pub(crate) const END: usize = 15;
 
 const BEHIND: usize = 8;
 
-pub fn answer(leaf: usize, args: &[u8], bytes: &[u8], out: &mut [u8]) -> bool {
+pub(crate) fn answer(leaf: usize, args: &[u8], bytes: &[u8], out: &mut [u8]) -> bool {
     if leaf < 7 {
         read(leaf, args, bytes, out);
         return true;

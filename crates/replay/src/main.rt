@@ -11,11 +11,12 @@ mod words;
 use libc::STDIN_FILENO;
 use libc::STDOUT_FILENO;
 use records::Head;
+ghost use Prim.Native.Nat.{_<_};
 
-// How many answers of each leaf were compared, and how many of them differ.
+// How many answers of each leaf were compared, and how many of them differ; last those with a number that no leaf has.
 struct Tally {
-    compared: [u64; 64],
-    differ: [u64; 64],
+    compared: [u64; 38],
+    differ: [u64; 38],
 }
 
 // A record that was read, and whether its answer is the same; the end of the list; or a record that is cut off or too long.
@@ -25,14 +26,22 @@ enum Read {
     Damaged,
 }
 
-fn counted(t: Tally, leaf: usize, same: bool) -> Tally {
-    if 64 <= leaf {
-        return t;
+// Where a leaf's answers are counted.
+fn slot(leaf: usize) -> usize
+    ensures { λ r. ⌜ r < 38 ⌝ }
+{
+    if leaf < names::NO_LEAF {
+        return leaf;
     }
+    names::NO_LEAF
+}
+
+fn counted(t: Tally, leaf: usize, same: bool) -> Tally {
+    let k = slot(leaf);
     let mut next = t;
-    next.compared[leaf] = std::num::wrapping_add_u64(t.compared[leaf], 1);
+    next.compared[k] = std::num::wrapping_add_u64(t.compared[k], 1);
     if !same {
-        next.differ[leaf] = std::num::wrapping_add_u64(t.differ[leaf], 1);
+        next.differ[k] = std::num::wrapping_add_u64(t.differ[k], 1);
     }
     next
 }
@@ -77,7 +86,7 @@ fn line(leaf: usize, compared: u64, differ: u64) {
 // The leaves that had answers, by number.
 fn report(t: Tally) {
     let mut i: usize = 0;
-    while i < 64 {
+    while i < 38 {
         if t.compared[i] != 0 {
             line(i, t.compared[i], t.differ[i]);
         }
@@ -88,8 +97,8 @@ fn report(t: Tally) {
 // No list has so many records; a proved loop has to end.
 fn replay() -> Tally {
     let mut t = Tally {
-        compared: [0u64; 64],
-        differ: [0u64; 64],
+        compared: [0u64; 38],
+        differ: [0u64; 38],
     };
     let mut turns = u64::MAX;
     while turns > 0 {

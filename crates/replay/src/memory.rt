@@ -8,13 +8,13 @@ use dma::Started;
 use dma::Virt;
 ghost use Prim.Native.Nat.{_≤_};
 
-pub const END: usize = 24;
+pub(crate) const END: usize = 24;
 
 const MAILBOX_AT: usize = 8;
 
 const MAILBOX_END: usize = 4104;
 
-pub fn answer(leaf: usize, args: &[u8], out: &mut [u8]) -> bool {
+pub(crate) fn answer(leaf: usize, args: &[u8], out: &mut [u8]) -> bool {
     match leaf {
         19 => {
             leaves::memory::leaf_pages_of(words::word(args, 0), out);

@@ -1,47 +1,47 @@
-// The names of the leaves, by number.
-fn text(s: &[u8]) {
-    io::write_all(libc::STDOUT_FILENO, s);
+// The names of the leaves, by number; the last one is for a number that no leaf has.
+ghost use Prim.Native.Nat.{_≤_};
+ghost use lib.ListN.{length};
+
+// The bytes that each name has in the list, spaces at its end included.
+const ROOM: usize = 10;
+
+pub(crate) const NO_LEAF: usize = 37;
+
+pub(crate) fn print(leaf: usize) {
+    name_in(
+        b"field     byte      be16      be32      be64      le16      le64      set_field set_byte  set_be16  set_be32  set_be64  set_le16  set_le64  zero      base      candidateschoose    resource  pages_of  accept    blocks    cut       fill      dev_cap   flag      b0        query_fw  query_portquery_funclayout    init_hca  pow2      log2      pending   writes    swap      no_leaf   ",
+        leaf,
+    );
 }
 
-pub fn print(leaf: usize) {
-    match leaf {
-        0 => text(b"field"),
-        1 => text(b"byte"),
-        2 => text(b"be16"),
-        3 => text(b"be32"),
-        4 => text(b"be64"),
-        5 => text(b"le16"),
-        6 => text(b"le64"),
-        7 => text(b"set_field"),
-        8 => text(b"set_byte"),
-        9 => text(b"set_be16"),
-        10 => text(b"set_be32"),
-        11 => text(b"set_be64"),
-        12 => text(b"set_le16"),
-        13 => text(b"set_le64"),
-        14 => text(b"zero"),
-        15 => text(b"base"),
-        16 => text(b"candidates"),
-        17 => text(b"choose"),
-        18 => text(b"resource"),
-        19 => text(b"pages_of"),
-        20 => text(b"accept"),
-        21 => text(b"blocks"),
-        22 => text(b"cut"),
-        23 => text(b"fill"),
-        24 => text(b"dev_cap"),
-        25 => text(b"flag"),
-        26 => text(b"b0"),
-        27 => text(b"query_fw"),
-        28 => text(b"query_port"),
-        29 => text(b"query_func"),
-        30 => text(b"layout"),
-        31 => text(b"init_hca"),
-        32 => text(b"pow2"),
-        33 => text(b"log2"),
-        34 => text(b"pending"),
-        35 => text(b"writes"),
-        36 => text(b"swap"),
-        _ => text(b"no_leaf"),
+fn name_in(names: &[u8], leaf: usize) {
+    if NO_LEAF < leaf {
+        return;
     }
+    let at = leaf * ROOM;
+    let end = at + ROOM;
+    if end <= names.len() {
+        show(&names[at..end]);
+    }
+}
+
+fn show(name: &[u8]) {
+    let n = width(name);
+    if n <= name.len() {
+        io::write_all(libc::STDOUT_FILENO, &name[..n]);
+    }
+}
+
+// How many bytes stand before the first space.
+fn width(name: &[u8]) -> usize
+    ensures { λ r. ⌜ r ≤ length (now (name .entry)) ⌝ }
+{
+    let mut n: usize = 0;
+    while n < name.len() {
+        if name[n] == 32 {
+            return n;
+        }
+        n = n + 1;
+    }
+    n
 }

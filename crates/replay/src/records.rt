@@ -8,7 +8,7 @@ ghost use mathlib.Core.Path.{_≡_};
 ghost use Prim.Native.Nat.{_+_, _≤_, _<_};
 ghost use lib.ListN.{length};
 
-pub struct Head {
+pub(crate) struct Head {
     pub leaf: u16,
     pub args: u16,
     pub bytes: u16,
@@ -22,7 +22,7 @@ fn half(s: &[u8], off: usize) -> u16 {
     }
 }
 
-pub fn head_of(s: &[u8]) -> Head {
+pub(crate) fn head_of(s: &[u8]) -> Head {
     Head {
         leaf: half(s, 0),
         args: half(s, 2),
@@ -32,14 +32,14 @@ pub fn head_of(s: &[u8]) -> Head {
 }
 
 // The bytes behind the head.
-pub fn length(h: Head) -> usize
+pub(crate) fn length(h: Head) -> usize
     ensures { λ r. ⌜ r ≡ h .args + h .bytes + h .answer ⌝ }
 {
     h.args as usize + h.bytes as usize + h.answer as usize
 }
 
 // Whether the leaf gives the stored answer.
-pub fn agrees(h: Head, body: &[u8]) -> bool {
+pub(crate) fn agrees(h: Head, body: &[u8]) -> bool {
     let a = h.args as usize;
     let b = a + h.bytes as usize;
     let c = b + h.answer as usize;

@@ -3,13 +3,13 @@ use crate::words;
 use leaves::command;
 use leaves::replies;
 
-pub const END: usize = 37;
+pub(crate) const END: usize = 37;
 
 const MAILBOX_AT: usize = 8;
 
 const MAILBOX_END: usize = 4104;
 
-pub fn answer(leaf: usize, args: &[u8], bytes: &[u8], out: &mut [u8]) -> bool {
+pub(crate) fn answer(leaf: usize, args: &[u8], bytes: &[u8], out: &mut [u8]) -> bool {
     if leaf < 30 {
         reply(leaf, args, bytes, out);
         return true;
@@ -46,7 +46,7 @@ fn reply(leaf: usize, args: &[u8], bytes: &[u8], out: &mut [u8]) {
 fn other(leaf: usize, args: &[u8], bytes: &[u8], out: &mut [u8]) {
     match leaf {
         30 => layout(args, bytes, out),
-        31 => init_hca(bytes, out),
+        31 => init_hca(args, bytes, out),
         32 => words::put(out, 0, leaves::tables::leaf_pow2(words::word(args, 0))),
         33 => words::put(
             out,
@@ -72,14 +72,14 @@ fn layout(args: &[u8], bytes: &[u8], out: &mut [u8]) {
 }
 
 // The refusal's number, then the mailbox.
-fn init_hca(bytes: &[u8], out: &mut [u8]) {
+fn init_hca(args: &[u8], bytes: &[u8], out: &mut [u8]) {
     if out.len() < MAILBOX_END {
         return;
     }
     let number = leaves::mailboxes::leaf_init_hca(
         bytes,
-        false,
-        0,
+        words::is_set(args, 0),
+        words::word(args, 1),
         &mut out[MAILBOX_AT..MAILBOX_END],
     );
     words::put(out, 0, number as u64);

@@ -8,6 +8,7 @@ pub mod command;
 pub mod ffi;
 pub mod fields;
 pub mod memory;
+pub mod openings;
 pub mod replies;
 pub mod run;
 pub mod stored;
@@ -41,9 +42,14 @@ pub struct Leaf {
     pub proved: fn(&Input) -> Answer,
 }
 
+/// The leaves of the stored list, by their numbers there.
+pub fn stored_leaves() -> Vec<Leaf> {
+    [fields::LEAVES, bars::LEAVES, memory::LEAVES, replies::LEAVES, tables::LEAVES, command::LEAVES].concat()
+}
+
 /// Every leaf that is compared.
 pub fn leaves() -> Vec<Leaf> {
-    [fields::LEAVES, bars::LEAVES, memory::LEAVES, replies::LEAVES, tables::LEAVES, command::LEAVES].concat()
+    [&stored_leaves()[..], tables::MORE, command::MORE].concat()
 }
 
 /// The leaf of that name.

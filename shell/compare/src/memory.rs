@@ -1,6 +1,6 @@
 //! Pages, blocks and page mailboxes.
 
-use oracle::leaves;
+use oracle::{leaves, parts};
 use world::prng::Prng;
 
 use crate::ffi::{self, Answer, Rest};
@@ -28,6 +28,8 @@ const LARGEST: u32 = 63;
 const BLOCKS: usize = 300;
 /// The blocks of a mailbox.
 const CAPACITY: usize = 256;
+/// The pages that a host grants for a buffer.
+const GRANTED: u64 = 8;
 
 /// A number of any size, often next to a power of two.
 fn number(r: &mut Prng) -> u64 {
@@ -46,13 +48,18 @@ fn size(r: &mut Prng) -> Input {
     Input::words(&[number(r)])
 }
 
-/// `DmaBuf::new` counts pages so; above 2^64 − 4,096 bytes document 01 refuses with 18.
+/// The pages that `DmaBuf::new` asks for; above 2^64 − 4,096 bytes document 01 refuses with 18. The host grants a few
+/// pages only; those are mapped whole, and the buffer has as many.
 fn pages_of(i: &Input) -> Option<Answer> {
     let bytes = i.words[0];
     if bytes > u64::MAX - (PAGE - 1) {
         return Some(Answer::words(&[REFUSED, 0]));
     }
-    Some(Answer::words(&[0, bytes.div_ceil(PAGE).max(1)]))
+    let asked = parts::buffer(bytes, GRANTED);
+    let granted = asked.pages <= GRANTED;
+    assert_eq!(asked.given, granted.then_some(asked.pages));
+    assert_eq!(asked.mapped, granted.then(|| asked.pages * PAGE));
+    Some(Answer::words(&[0, asked.pages]))
 }
 
 /// A device address and a number of pages.
@@ -70,7 +77,7 @@ fn buffer(r: &mut Prng) -> Input {
 /// Added by document 01: a page multiple whose end is at most 2^64.
 fn accept(dev: u64, pages: u64) -> u64 {
     let end = u128::from(dev) + u128::from(pages) * u128::from(PAGE);
-    if dev % PAGE == 0 && end <= 1 << 64 {
+    if dev.is_multiple_of(PAGE) && end <= 1 << 64 {
         0
     } else {
         REFUSED

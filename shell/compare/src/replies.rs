@@ -6,7 +6,7 @@ use world::prng::Prng;
 use world::results::{Capabilities, Outcome, Refusal, Stop};
 
 use crate::ffi::{self, Answer};
-use crate::{Input, Leaf};
+use crate::{openings, Input, Leaf};
 
 pub const LEAVES: &[Leaf] = &[
     Leaf {
@@ -201,10 +201,11 @@ fn query_port(i: &Input) -> Option<Answer> {
     Some(Answer { words, bytes: Vec::new() })
 }
 
-/// `bring_up` reads these three fields itself; here they are read with the Rust's own `Mem`, and whole openings are
-/// compared in tests/openings.rs.
+/// What an opening says of EQs and UARs, on a card with input L, so many system EQs and one, and room for any total.
 fn query_func(i: &Input) -> Option<Answer> {
-    let mut s = i.bytes.clone();
-    let uars = parts::read(&mut s, 0x0b, 1) & 0xf;
-    Some(Answer::words(&[0, parts::read(&mut s, 0x04, 2), parts::read(&mut s, 0x06, 2), uars]))
+    let mut l = input_l();
+    put_be16(&mut l, 0x26, 1 + i.words[0] as u16);
+    l[0xa0] = 0xff;
+    let cap = openings::open(&l, &i.bytes, None)?.expect("a reply that is not refused").opened.cap;
+    Some(Answer::words(&[0, cap.rsvd_eqs, cap.max_eqs, cap.rsvd_uars]))
 }

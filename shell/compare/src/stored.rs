@@ -17,7 +17,7 @@ const ANSWER: usize = 1200;
 
 /// The whole list: the leaves in their order.
 pub fn list() -> Vec<u8> {
-    crate::leaves().iter().enumerate().flat_map(|(number, leaf)| of_leaf(number, leaf)).collect()
+    crate::stored_leaves().iter().enumerate().flat_map(|(number, leaf)| of_leaf(number, leaf)).collect()
 }
 
 /// The records of a leaf: known inputs first, then those of its seed.

@@ -2,15 +2,15 @@
 
 use oracle::{leaves, parts};
 use world::prng::Prng;
-use world::results::{Layout, Table};
+use world::results::{Layout, Refusal};
 
 use crate::ffi::{self, Answer};
 use crate::replies::{bar, bar_words, capability_reply, code, refusal};
-use crate::{Input, Leaf};
+use crate::{openings, Input, Leaf};
 
 pub const LEAVES: &[Leaf] = &[
     Leaf { name: "layout", input: reply, rust: layout, proved: proved_layout },
-    Leaf { name: "init_hca", input: reply, rust: init_hca, proved: proved_init_hca },
+    Leaf { name: "init_hca", input: with_bar, rust: init_hca, proved: proved_init_hca },
     Leaf {
         name: "pow2",
         input: near_a_power,
@@ -25,9 +25,16 @@ pub const LEAVES: &[Leaf] = &[
     },
 ];
 
-/// Words of an answer: the refusal, total, base special QPN, first free MTT, eleven tables, fourteen ranges.
+/// Those that are not in the stored list: a layout of any size, without its ranges.
+pub const MORE: &[Leaf] =
+    &[Leaf { name: "tables", input: reply, rust: tables, proved: |i| without_ranges(proved_layout(i)) }];
+
+/// Words of an answer: the refusal, total, base special QPN, first free MTT, eleven tables; then fourteen ranges.
 const WORDS: usize = 88;
+const TABLES_END: usize = 60;
 const MAX_ICM: usize = 0xa0;
+/// A reply to QUERY_FUNC, which the tables do not depend on.
+const FUNC: [u8; 64] = [0; 64];
 
 /// A capability reply; often the largest total that it allows is the total that it comes to, or one less.
 fn reply(r: &mut Prng) -> Input {
@@ -43,22 +50,17 @@ fn reply(r: &mut Prng) -> Input {
     Input { words, bytes }
 }
 
+/// With the size of the UAR BAR known in every second one, mostly large enough.
+fn with_bar(r: &mut Prng) -> Input {
+    let mut i = reply(r);
+    i.words = bar_words(r, &i.bytes);
+    i
+}
+
 fn near_a_power(r: &mut Prng) -> Input {
     let power = 1u64 << r.below(64);
     let any = r.next_u64() >> r.below(64);
     Input::words(&[r.pick(&[power, power.wrapping_sub(1), power.wrapping_add(1), 0, u64::MAX, any])])
-}
-
-/// The ranges as `map_icm` computes them from the tables; whole runs of `map_icm` are compared in tests/openings.rs.
-pub fn ranges(t: &[Table; 11]) -> Vec<(u64, u64)> {
-    const CMPT: usize = 8;
-    let quarter = |k: u64, i: usize| {
-        let bytes = (t[i].count * t[CMPT].entry).div_ceil(4096) * 4096;
-        (t[CMPT].base + k * (t[CMPT].entry << 24), bytes)
-    };
-    let mut all = vec![quarter(0, 0), quarter(1, 4), quarter(2, 5), quarter(3, 6)];
-    all.extend([6, 9, 7, 0, 3, 2, 1, 5, 4, 10].map(|i| (t[i].base, t[i].bytes)));
-    all
 }
 
 fn layout_words(l: &Layout) -> Vec<u64> {
@@ -70,17 +72,24 @@ fn layout_words(l: &Layout) -> Vec<u64> {
     };
     let mut words = vec![0, 0, l.total, l.base_sqpn, l.first_free_mtt];
     words.extend(order.into_iter().flat_map(row));
-    words.extend(ranges(&l.tables).into_iter().flat_map(|(virt, bytes)| [virt, bytes]));
     words
 }
 
 /// A refusal is compared by number and value, and has no layout; the two numbers from the capabilities are not looked at.
+fn refused(r: &Refusal) -> Answer {
+    Answer::words(&[&code(r)[..], &[0; WORDS - 4]].concat())
+}
+
+/// The layout of an opening, and the ranges that the card was told of in it.
 fn layout(i: &Input) -> Option<Answer> {
-    let outcome = leaves::profile(&i.bytes, bar(i));
-    Some(match refusal(&outcome) {
-        Some(r) => Answer::words(&[&code(r)[..], &[0; WORDS - 4]].concat()),
-        None => Answer { words: layout_words(&outcome.expect("a layout")), bytes: Vec::new() },
-    })
+    let outcome = openings::open(&i.bytes, &FUNC, bar(i))?;
+    if let Some(r) = refusal(&outcome) {
+        return Some(refused(r));
+    }
+    let shown = outcome.expect("an opening");
+    let mut words = layout_words(&shown.opened.layout);
+    words.extend(shown.ranges.into_iter().flat_map(|(virt, bytes)| [virt, bytes]));
+    Some(Answer { words, bytes: Vec::new() })
 }
 
 fn proved_layout(i: &Input) -> Answer {
@@ -91,13 +100,28 @@ fn proved_layout(i: &Input) -> Answer {
     Answer { words, bytes: Vec::new() }
 }
 
+/// `query_dev_cap` and `profile`, which need no memory.
+fn tables(i: &Input) -> Option<Answer> {
+    let outcome = leaves::profile(&i.bytes, bar(i));
+    Some(match refusal(&outcome) {
+        Some(r) => without_ranges(refused(r)),
+        None => Answer { words: layout_words(&outcome.expect("a layout")), bytes: Vec::new() },
+    })
+}
+
+fn without_ranges(mut layout: Answer) -> Answer {
+    layout.words.truncate(TABLES_END);
+    layout
+}
+
+/// The mailbox of an opening; none where the reply is refused.
 fn init_hca(i: &Input) -> Option<Answer> {
-    let bytes = leaves::init_hca(&i.bytes).ok()?;
-    Some(Answer { words: vec![0], bytes })
+    let shown = openings::open(&i.bytes, &FUNC, bar(i))?.ok()?;
+    Some(Answer { words: vec![0], bytes: shown.init_hca })
 }
 
 fn proved_init_hca(i: &Input) -> Answer {
     let mut inbox = vec![0xa5; 4096];
-    let number = ffi::init_hca(&i.bytes, None, &mut inbox);
+    let number = ffi::init_hca(&i.bytes, bar(i), &mut inbox);
     Answer { words: vec![number.into()], bytes: inbox }
 }

@@ -1,8 +1,10 @@
 //! Leaves over all of a small input.
 
+use compare::command::{waits, STALLS};
 use compare::run::same;
 use compare::{ffi, leaf, Input};
-use world::plan::{input_l, put_be16};
+use oracle::parts::End;
+use world::plan::{input_l, put_be16, NEVER};
 
 fn all(name: &str, inputs: impl Iterator<Item = Input>) -> usize {
     let leaf = leaf(name);
@@ -80,10 +82,11 @@ fn every_byte_of_the_capability_reply() {
     };
     for bar in [[0, 0], [1, 1 << 20]] {
         assert_eq!(all("dev_cap", cases(bar)), 168 * 256);
-        assert_eq!(all("layout", cases(bar)), 168 * 256);
+        assert_eq!(all("tables", cases(bar)), 168 * 256);
+        // All but those whose tables need more memory than an opening has here; then all but the refused ones.
+        assert!(all("layout", cases(bar)) > 42_000);
+        assert!(all("init_hca", cases(bar)) > 30_000);
     }
-    // Those that have a layout: all but the refused ones.
-    assert!(all("init_hca", cases([0, 0])) > 30_000);
 }
 
 #[test]
@@ -97,6 +100,10 @@ fn every_uar_field_against_every_known_size() {
     for field in 0..256 {
         assert_eq!(all("dev_cap", sizes().map(|s| case(field, s))), 192);
         assert_eq!(all("layout", sizes().map(|s| case(field, s))), 192);
+        // Refused are the fields above 43, and the sizes below the area.
+        let area = (field & 63) + 20;
+        let fits = if area <= 63 { 1 + 3 * (63 - area as usize) + 1 } else { 0 };
+        assert_eq!(all("init_hca", sizes().map(|s| case(field, s))), fits);
     }
 }
 
@@ -110,7 +117,7 @@ fn every_entry_size() {
         Input { words: vec![0, 0], bytes }
     };
     for table in 0..10 {
-        assert_eq!(all("layout", (0..1 << 16).map(|e| case(table, e))), 1 << 16);
+        assert_eq!(all("tables", (0..1 << 16).map(|e| case(table, e))), 1 << 16);
     }
 }
 
@@ -127,7 +134,7 @@ fn every_nibble_of_the_counts() {
     };
     for place in PLACES {
         for sys in [0, 1, 100, 0xfff, 0xf000] {
-            assert_eq!(all("layout", (0..256).map(|v| case(place, v, sys))), 256);
+            assert_eq!(all("tables", (0..256).map(|v| case(place, v, sys))), 256);
         }
     }
     assert_eq!(all("layout", (0..=0xffff).map(|sys| case(0x12, 3, sys))), 0x1_0000);
@@ -155,6 +162,56 @@ fn every_flag_and_every_status() {
     assert_eq!(all("b0", steering.into_iter()), 4);
     let status = (0..1u64 << 16).flat_map(|top| [0, 1].map(|t| Input::words(&[top << 16, t])));
     assert_eq!(all("pending", status), 1 << 17);
+}
+
+/// Every upper half of a status dword, behind each of three lower halves.
+#[test]
+fn every_upper_half_of_the_status_dword() {
+    let dwords = |low: u64| (0..1u64 << 16).map(move |top| Input::words(&[top << 16 | low]));
+    for low in [0, 0x5a5a, 0xffff] {
+        assert_eq!(all("first_toggle", dwords(low)), 1 << 16);
+        assert_eq!(all("status", dwords(low)), 1 << 16);
+    }
+}
+
+#[test]
+fn every_opcode_and_every_modifier() {
+    let words = |t: u64, m: u64, op: u64| Input::words(&[t, m, op]);
+    for toggle in [0, 1] {
+        assert_eq!(all("go_word", (0..1 << 16).map(|op| words(toggle, 0x5a, op))), 1 << 16);
+        assert_eq!(all("go_word", (0..256).map(|m| words(toggle, m, 0xfff))), 256);
+    }
+}
+
+/// All waits up to 3,000 stalls, and some of the longest that are no Timeout.
+#[test]
+fn waits_of_a_command() {
+    let long = [10_000, 100_000, 600_000, STALLS - 1, STALLS];
+    assert_eq!(all("waited", (0..3000).chain(long).map(|n| Input::words(&[n]))), 3005);
+}
+
+/// The stalls of a command that never ends, each of them and the sum at each.
+#[test]
+fn stalls_until_the_timeout() {
+    for polls in [STALLS + 1, NEVER] {
+        let (stalls, end) = waits(polls);
+        assert_eq!((stalls.len() as u64, end), (STALLS, End::Timeout));
+        let mut waited = 0;
+        for (n, us) in (0..).zip(stalls) {
+            assert_eq!((ffi::waited(n), u64::from(ffi::stall(n))), (waited, us));
+            waited += us;
+        }
+        assert_eq!((ffi::waited(STALLS as u32), waited), (60_000_000, 60_000_000));
+    }
+    assert_eq!(all("stall", (0..STALLS).map(|n| Input::words(&[n]))), STALLS as usize);
+}
+
+/// Every number of bytes up to 40 pages, and those around each page multiple that is a power of two.
+#[test]
+fn pages_of_every_small_buffer() {
+    assert_eq!(all("pages_of", (0..=40 * 4096).map(|n| Input::words(&[n]))), 40 * 4096 + 1);
+    let near = (12..64).flat_map(|e| [(1u64 << e) - 1, 1 << e, (1 << e) + 1, 0u64.wrapping_sub(1 << e)]);
+    assert_eq!(all("pages_of", near.map(|n| Input::words(&[n]))), 208);
 }
 
 #[test]

@@ -1,53 +1,40 @@
-//! What the Rust computes only within an opening: the mapped ranges, QUERY_FUNC, MOD_STAT_CFG, waits and statuses.
+//! Openings with larger tables than the leaves' own, MOD_STAT_CFG, and what has no leaf.
 
 use compare::ffi;
+use compare::openings::PAGES;
 use compare::replies::capability_reply;
-use compare::tables::ranges;
-use oracle::parts::{self, Command};
-use oracle::{leaves, run};
-use world::plan::{input_l, put_be16, Plan};
+use oracle::openings::Openings;
+use oracle::{parts, run};
+use world::plan::{input_l, Plan};
 use world::prng::Prng;
 use world::registers::MOD_STAT_CFG;
-use world::results::Layout;
 
-const CASES: usize = if cfg!(debug_assertions) { 50 } else { 1_000 };
-/// The largest layout that an opening is run for, without the cMPT.
-const MAPPED: u64 = 16 << 20;
+const CASES: usize = if cfg!(debug_assertions) { 5 } else { 200 };
+/// The pages of the largest opening here: 1 GB.
+const LARGE: u64 = 1 << 18;
 
-fn mapped(l: &Layout) -> u64 {
-    ranges(&l.tables).iter().map(|(_, bytes)| bytes).sum()
-}
-
+/// Layouts that need more memory than the leaves `layout` and `init_hca` are granted.
 #[test]
-fn map_icm_maps_the_ranges_of_the_layout() {
+fn openings_with_large_tables() {
     let mut r = Prng::new(4);
+    let card = Openings::new(LARGE);
     let mut compared = 0;
     while compared < CASES {
         let reply = capability_reply(&mut r);
-        let Some(layout) = leaves::profile(&reply, None).ok().filter(|l| mapped(l) <= MAPPED) else {
+        let bar = r.one_in(2).then_some(u64::MAX);
+        let Some(Ok(shown)) = card.open(&reply, &[], bar) else {
             continue;
         };
-        let rust = leaves::ranges(&reply).expect("a host with so many pages");
-        let words = ffi::layout(&reply, None);
+        if shown.ranges.iter().map(|(_, bytes)| bytes / 4096).sum::<u64>() <= PAGES {
+            continue;
+        }
+        let words = ffi::layout(&reply, bar);
         let proved: Vec<(u64, u64)> = words[60..].chunks(2).map(|w| (w[0], w[1])).collect();
-        assert_eq!(rust, proved, "{layout}");
-        assert_eq!(rust, ranges(&layout.tables), "{layout}");
+        assert_eq!(shown.ranges, proved, "{}", shown.opened.layout);
+        let mut inbox = vec![0xa5; 4096];
+        assert_eq!(ffi::init_hca(&reply, bar, &mut inbox), 0);
+        assert_eq!(inbox, shown.init_hca, "{}", shown.opened.layout);
         compared += 1;
-    }
-}
-
-#[test]
-fn query_func_replaces_three_fields() {
-    let mut r = Prng::new(5);
-    for _ in 0..CASES.min(300) {
-        let mut plan = Plan::obedient();
-        put_be16(&mut plan.card.replies.cap, 0x26, 1 + r.below(0x7f) as u16);
-        plan.card.replies.func = r.bytes(64);
-        let reply = plan.card.replies.func.clone();
-        let (_, mut driver) = run::in_world(plan);
-        let cap = run::open(&mut driver).expect("a good opening").cap;
-        let words = ffi::query_func(&reply);
-        assert_eq!([0, cap.rsvd_eqs, cap.max_eqs, cap.rsvd_uars], words);
     }
 }
 
@@ -61,35 +48,6 @@ fn mod_stat_cfg_is_what_the_opening_posts() {
     let mut inbox = vec![0xa5; 4096];
     assert_eq!(ffi::mod_stat_cfg(&mut inbox), 0);
     assert_eq!(inbox, posted);
-}
-
-#[test]
-fn waits_and_statuses_of_a_command() {
-    let command = Command { toggle: true, op: 4, op_mod: 0, in_mod: 0, in_param: 0, out_param: 0 };
-    for polls in [0, 1, 2, 999, 1000, 1001, 5000] {
-        let posted = parts::post(command, polls, 0);
-        let stalls: Vec<u64> = (0..polls as u32).map(|n| ffi::stall(n).into()).collect();
-        assert_eq!(posted.stalls, stalls);
-        assert_eq!(posted.stalls.iter().sum::<u64>(), ffi::waited(polls as u32));
-    }
-    for status in 0..=255 {
-        let dword = u32::from(status) << 24 | 0x0012_3456;
-        assert_eq!(parts::post(command, 0, status).status, ffi::status(dword));
-    }
-    assert_eq!(ffi::waited(600_990), 60_000_000);
-}
-
-#[test]
-fn first_toggle_and_go_word() {
-    for status in (0..1u32 << 16).map(|top| top << 16) {
-        let (go, t) = (status >> 23 & 1, status >> 21 & 1);
-        assert_eq!(ffi::first_toggle(status), go == 1 || t == 0);
-    }
-    for op in 0..=0xffff {
-        let w =
-            parts::post(Command { toggle: false, op, op_mod: 0x5a, in_mod: 0, in_param: 0, out_param: 0 }, 0, 0).writes;
-        assert_eq!(w[6].1, ffi::swap(ffi::go_word(false, 0x5a, op)));
-    }
 }
 
 /// The opcodes that bring-up and closing send, queries excepted, and those above twelve bits.

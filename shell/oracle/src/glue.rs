@@ -25,8 +25,6 @@ const ALLOCATE_ANY_PAGES: u32 = 0;
 const BOOT_SERVICES_DATA: u32 = 4;
 /// The shortest list that pci.rs reads without passing its end.
 const DESCRIPTOR: usize = 46;
-/// UEFI hands out pages as they are; the driver's zeroing must show.
-const STALE: u8 = 0xa5;
 
 /// One driver's bus, and what UEFI keeps for it.
 pub struct Context {
@@ -280,20 +278,17 @@ unsafe extern "efiapi" fn allocate_buffer(
     let host = match ask(|b| b.allocate(pages as u64)) {
         Allocation::Failed => return Status::OUT_OF_RESOURCES,
         Allocation::Null => ptr::null_mut(),
-        Allocation::Pages(handle) => unsafe { keep_buffer(handle, pages) },
+        Allocation::Pages(handle) => keep_buffer(handle),
     };
     unsafe { to.write(host) };
     Status::SUCCESS
 }
 
-/// # Safety
-/// The handle has `pages` pages, which live as long as the bus.
-unsafe fn keep_buffer(handle: Handle, pages: usize) -> *mut c_void {
-    let host = ask(|b| b.pages(handle).as_ptr());
-    // SAFETY: these are cells of the bus, and nobody else is at them now.
-    unsafe { host.write_bytes(STALE, pages * world::PAGE as usize) };
-    current().buffers.borrow_mut().push((host.cast(), handle));
-    host.cast()
+/// The pages live as long as the bus.
+fn keep_buffer(handle: Handle) -> *mut c_void {
+    let host = ask(|b| b.hand_out(handle)).cast();
+    current().buffers.borrow_mut().push((host, handle));
+    host
 }
 
 unsafe extern "efiapi" fn free_buffer(_: *mut PciIo, pages: usize, host: *mut c_void) -> Status {

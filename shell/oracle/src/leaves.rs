@@ -212,16 +212,6 @@ pub fn port_info(reply: &[u8], port: u8) -> Port {
     })
 }
 
-/// The card address and the bytes of each range that `map_icm` maps for a capability reply that is not refused.
-pub fn ranges(reply: &[u8]) -> Outcome<Vec<(u64, u64)>> {
-    let mut b = Bench::new();
-    let (_, prof) = b.decode(reply, None)?;
-    let (hca, pci) = (&mut b.hca, &mut b.pci);
-    let mapped = glue::call(&b.context, || access::map_icm(hca, pci, &prof)).map_err(Stop::Outside)?;
-    mapped.map_err(|_| Stop::Outside("the host has no such buffer".into()))?;
-    Ok(access::books(&b.hca).icm.iter().map(|(virt, buf)| (*virt, buf.len() as u64)).collect())
-}
-
 /// The INIT_HCA mailbox, 4,096 bytes, for a capability reply that is not refused.
 pub fn init_hca(reply: &[u8]) -> Outcome<Vec<u8>> {
     BENCH.with_borrow_mut(|b| {

@@ -1,7 +1,8 @@
 //! The reference of document 01: the driver's Rust, unchanged and without
 //! overflow checks, over a `world::bus::Bus` in place of UEFI.
 //!
-//! `leaves` has its functions without a bus, `parts` smaller ones, `run` its calls.
+//! `leaves` has its functions without a bus, `parts` smaller ones, `run` its
+//! calls, `openings` many openings in little time.
 
 extern crate alloc;
 
@@ -9,9 +10,11 @@ extern crate alloc;
 mod console;
 mod glue;
 pub mod leaves;
+pub mod openings;
 pub mod parts;
 mod refusal;
 pub mod run;
+mod script;
 
 // fw, hcr, dma, bars and pci; see build.rs.
 include!(concat!(env!("OUT_DIR"), "/sources.rs"));

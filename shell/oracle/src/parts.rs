@@ -1,18 +1,13 @@
-//! The smaller parts of the driver: bytes of a mailbox, a resource list, the command register.
-
-use std::cell::RefCell;
-use std::collections::VecDeque;
-use std::rc::Rc;
-
-use world::bus::{Allocation, AttributeCall, Bus, Handle, Mapping, Resource};
-use world::memory::Pages;
+//! The smaller parts of the driver: bytes of a mailbox, a resource list, a buffer, the command register.
 
 use crate::dma::oracle_access::over;
+use crate::dma::DmaBuf;
 use crate::fw::{self, DevCap};
-use crate::glue::{self, Context};
+use crate::glue;
 use crate::hcr::oracle_access as hcr;
 use crate::hcr::{CmdError, Hcr, Op};
 use crate::leaves;
+use crate::script::{over_script, Script};
 
 /// `fw::pow2`.
 pub fn pow2(x: u64) -> u64 {
@@ -89,85 +84,33 @@ pub fn zero(bytes: &mut [u8]) {
     over(bytes).zero();
 }
 
-/// A bus that answers from lists and keeps what is written.
-#[derive(Default)]
-struct Script {
-    list: Vec<u8>,
-    /// What the register reads give, as the card has the dwords.
-    reads: VecDeque<u32>,
-    writes: Vec<(u64, u32)>,
-    stalls: Vec<u64>,
-}
-
-impl Bus for Script {
-    fn config_read16(&mut self, _: u32) -> Option<u16> {
-        None
-    }
-    fn config_read32(&mut self, _: u32) -> Option<u32> {
-        None
-    }
-    fn config_write16(&mut self, _: u32, _: u16) -> bool {
-        false
-    }
-    fn config_write32(&mut self, _: u32, _: u32) -> bool {
-        false
-    }
-    fn register_read(&mut self, _: u8, _: u64) -> Option<u32> {
-        self.reads.pop_front().map(u32::to_be)
-    }
-    fn register_write(&mut self, bar: u8, offset: u64, value: u32) -> bool {
-        self.writes.push((offset, value));
-        bar == 0
-    }
-    fn attributes(&mut self, _: AttributeCall, _: u64) -> Option<u64> {
-        None
-    }
-    fn resource(&mut self, _: u8) -> Resource {
-        Resource::List(self.list.clone())
-    }
-    fn free_pool(&mut self, _: u8) {}
-    fn stall(&mut self, us: u64) {
-        self.stalls.push(us);
-    }
-    fn allocate(&mut self, _: u64) -> Allocation {
-        Allocation::Failed
-    }
-    fn map(&mut self, _: Handle, _: u64) -> Option<Mapping> {
-        None
-    }
-    fn unmap(&mut self, _: Handle) -> bool {
-        false
-    }
-    fn free(&mut self, _: Handle, _: u64) -> bool {
-        false
-    }
-    fn pages(&self, _: Handle) -> &Pages {
-        unreachable!("nothing was handed over")
-    }
-    fn inbox_at(&self, _: u64) -> Option<Vec<u8>> {
-        None
-    }
-}
-
-/// Runs a part over a script, and gives the script back.
-fn over_script<T>(script: Script, part: impl FnOnce() -> T) -> (T, Script) {
-    let bus = Rc::new(RefCell::new(script));
-    let context = Context::new(bus.clone());
-    let result = glue::call(&context, part).expect("no panic");
-    drop(context);
-    let script = bus.take();
-    (result, script)
-}
-
 /// `PciIo::bar_range` on a list of 46 bytes or more.
 pub fn resource(list: &[u8]) -> Option<(u64, u64)> {
     let script = Script { list: list.to_vec(), ..Script::default() };
     over_script(script, || glue::pci_io().bar_range(0).ok()).0
 }
 
+/// What `DmaBuf::new` asks for: the pages of its allocation, and the bytes of its map where the host granted the pages.
+#[derive(Clone, Copy, PartialEq, Eq, Debug)]
+pub struct Asked {
+    pub pages: u64,
+    pub mapped: Option<u64>,
+    /// The pages of the buffer that it gives.
+    pub given: Option<u64>,
+}
+
+/// `DmaBuf::new` on a host that grants so many pages and no more.
+pub fn buffer(bytes: u64, grant: u64) -> Asked {
+    let script = Script { grant, ..Script::default() };
+    let part = || DmaBuf::new(&mut glue::pci_io(), bytes as usize).ok().map(|b| b.pages as u64);
+    let (given, s) = over_script(script, part);
+    let [pages] = s.asked[..] else { panic!("a buffer is one allocation") };
+    Asked { pages, mapped: s.maps.first().copied(), given }
+}
+
 /// `Hcr::pending` where the status dword reads so.
 pub fn pending(status: u32, toggle: bool) -> bool {
-    let script = Script { reads: [status].into(), ..Script::default() };
+    let script = Script { reads: [(status, 1)].into(), ..Script::default() };
     let part = |h: &mut Hcr| hcr::pending(h, &mut glue::pci_io()).ok().expect("one read");
     leaves::with_hcr(|h| {
         hcr::set_toggle(h, toggle);
@@ -176,7 +119,7 @@ pub fn pending(status: u32, toggle: bool) -> bool {
 }
 
 /// A command as `Hcr::post` takes it.
-#[derive(Clone, Copy, Debug)]
+#[derive(Clone, Copy, Debug, Default)]
 pub struct Command {
     pub toggle: bool,
     pub op: u16,
@@ -186,33 +129,97 @@ pub struct Command {
     pub out_param: u64,
 }
 
-/// What a command did: its register writes as the bus saw them, its stalls, and its status.
+/// How a command ended.
+#[derive(Clone, Copy, PartialEq, Eq, Debug)]
+pub enum End {
+    /// Good, with its immediate.
+    Good(u64),
+    Status(u8),
+    Timeout,
+    Busy,
+    /// A register was not read or not written.
+    Failed,
+}
+
+impl End {
+    fn of(result: Result<u64, CmdError>) -> End {
+        match result {
+            Ok(immediate) => End::Good(immediate),
+            Err(CmdError::Status(s)) => End::Status(s),
+            Err(CmdError::Timeout) => End::Timeout,
+            Err(CmdError::Busy) => End::Busy,
+            Err(CmdError::Pci) => End::Failed,
+        }
+    }
+}
+
+/// What a command did: its register writes as the bus saw them, its stalls, and how it ended.
 pub struct Posted {
     pub writes: Vec<(u64, u32)>,
     pub stalls: Vec<u64>,
-    pub status: u8,
+    pub end: End,
 }
 
-/// `Hcr::post` on a card that shows the command pending `polls` times, then done with this status.
-pub fn post(c: Command, polls: usize, status: u8) -> Posted {
-    const GO: u32 = 1 << 23;
-    let t = |on: bool| u32::from(on) << 21;
+/// What the card shows to a command, as its own dwords.
+#[derive(Clone, Copy, Debug, Default)]
+pub struct Shows {
+    /// The polls that show GO.
+    pub polls: u64,
+    /// The bits beside GO and T of the poll that shows the end.
+    pub end: u32,
+    /// The status dword, read once more when the end was seen.
+    pub status: u32,
+    /// The immediate's two dwords.
+    pub immediate: [u32; 2],
+}
+
+const GO: u32 = 1 << 23;
+const T: u32 = 1 << 21;
+
+fn t(on: bool) -> u32 {
+    if on {
+        T
+    } else {
+        0
+    }
+}
+
+/// `Hcr::post` on such a card.
+pub fn post(c: Command, shows: Shows) -> Posted {
     // Before the command T is not the toggle; once it is done, T is the toggle that it was posted with.
-    let (idle, done) = (t(!c.toggle), t(c.toggle) | u32::from(status) << 24);
-    let mut reads: VecDeque<u32> = [idle].into();
-    reads.extend(std::iter::repeat_n(GO, polls));
-    reads.extend([done, done, 0, 0]);
-    let script = Script { reads, ..Script::default() };
+    let done = t(c.toggle) | shows.end & !(GO | T);
+    let [high, low] = shows.immediate;
+    let reads = [(t(!c.toggle), 1), (GO, shows.polls), (done, 1), (shows.status, 1), (high, 1), (low, 1)];
+    let script = Script { reads: reads.into(), ..Script::default() };
     leaves::with_hcr(|h| {
         hcr::set_toggle(h, c.toggle);
         let params = [c.in_param, c.out_param];
         let part = || hcr::post(h, &mut glue::pci_io(), Op(c.op, "op"), c.op_mod, c.in_mod, params);
         let (result, s) = over_script(script, part);
-        let status = match result {
-            Ok(_) => 0,
-            Err(CmdError::Status(s)) => s,
-            Err(e) => panic!("the card answers every read: {e}"),
-        };
-        Posted { writes: s.writes, stalls: s.stalls, status }
+        Posted { writes: s.writes, stalls: s.stalls, end: End::of(result) }
     })
+}
+
+/// `Hcr::new` where the status dword reads so, then a command on a card that shows this T: the dwords that were written.
+fn first_command(status: u32, shown: bool) -> Vec<(u64, u32)> {
+    let reads = [(status, 1), (t(shown), 1), (t(!shown), 2), (0, 2)];
+    let script = Script { reads: reads.into(), grant: 1, ..Script::default() };
+    let part = || {
+        let mut pci = glue::pci_io();
+        let mut hcr = Hcr::new(&mut pci).ok().expect("both mailboxes are granted");
+        End::of(hcr.imm(&mut pci, Op(4, "op"), 0, 0, 0))
+    };
+    let (end, s) = over_script(script, part);
+    assert_eq!(end == End::Busy, s.writes.is_empty(), "a command that is not Busy is posted");
+    s.writes
+}
+
+/// The toggle that `Hcr::new` chooses where the status dword reads so: T of the first command. Only where the card shows
+/// the other T is there a command.
+pub fn first_toggle(status: u32) -> bool {
+    let posted = [false, true].map(|shown| first_command(status, shown).last().map(|w| u32::from_be(w.1) & T != 0));
+    match posted {
+        [Some(toggle), None] | [None, Some(toggle)] => toggle,
+        _ => panic!("a toggle is 0 or 1"),
+    }
 }

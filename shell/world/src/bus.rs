@@ -85,6 +85,10 @@ pub trait Bus {
 
     /// The memory behind a handle, also after its free.
     fn pages(&self, handle: Handle) -> &Pages;
+    /// Where the pages of a good allocation lie, when they are handed out.
+    fn hand_out(&self, handle: Handle) -> *mut u8 {
+        self.pages(handle).stale().as_ptr()
+    }
     /// The inbox, if it is mapped at this device address. The inbox is the
     /// first buffer that was mapped since the card was reset.
     fn inbox_at(&self, address: u64) -> Option<Vec<u8>>;

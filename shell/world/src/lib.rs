@@ -11,6 +11,7 @@ mod card;
 mod config;
 mod held;
 mod host;
+pub mod lean;
 pub mod memory;
 pub mod plan;
 pub mod prng;

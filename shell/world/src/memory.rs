@@ -6,6 +6,8 @@ use std::cell::Cell;
 use crate::PAGE;
 
 const BYTES: usize = PAGE as usize;
+/// UEFI hands out pages as they are; a driver's zeroing must show.
+const STALE: u8 = 0xa5;
 
 /// One page, at a page address. The cells allow writes from both sides.
 #[repr(C, align(4096))]
@@ -34,21 +36,41 @@ impl Pages {
         self.0.as_ptr().cast::<u8>().cast_mut()
     }
 
+    /// The pages as they may be handed out: with anything in them.
+    pub fn stale(&self) -> &Pages {
+        self.0.iter().flat_map(|p| &p.0).for_each(|b| b.set(STALE));
+        self
+    }
+
     /// Up to `n` bytes from `offset`, fewer at the end of the run.
     pub fn read(&self, offset: u64, n: u64) -> Vec<u8> {
-        let end = (offset + n).min(self.count() * PAGE);
-        (offset..end).map(|i| self.cell(i).get()).collect()
+        let mut bytes = Vec::new();
+        for part in self.parts(offset, n) {
+            bytes.extend(part.iter().map(Cell::get));
+        }
+        bytes
     }
 
     /// Write `bytes` from `offset` on; what passes the end is dropped.
-    pub fn write(&self, offset: u64, bytes: &[u8]) {
-        let end = self.count() * PAGE;
-        for (i, b) in (offset..end).zip(bytes) {
-            self.cell(i).set(*b);
+    pub fn write(&self, offset: u64, mut bytes: &[u8]) {
+        for part in self.parts(offset, bytes.len() as u64) {
+            let (now, behind) = bytes.split_at(part.len());
+            part.iter().zip(now).for_each(|(cell, b)| cell.set(*b));
+            bytes = behind;
         }
     }
 
-    fn cell(&self, i: u64) -> &Cell<u8> {
-        &self.0[(i / PAGE) as usize].0[(i % PAGE) as usize]
+    /// The cells from `offset` on, `n` at most, page by page.
+    fn parts(&self, offset: u64, n: u64) -> impl Iterator<Item = &[Cell<u8>]> {
+        let end = (offset + n).min(self.count() * PAGE);
+        let mut at = offset;
+        std::iter::from_fn(move || {
+            let left = end.checked_sub(at).filter(|left| *left > 0)?;
+            let from = at % PAGE;
+            let to = (from + left).min(PAGE);
+            let part = &self.0[(at / PAGE) as usize].0[from as usize..to as usize];
+            at += to - from;
+            Some(part)
+        })
     }
 }

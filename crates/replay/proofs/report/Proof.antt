@@ -7,10 +7,10 @@ use Rattle.replay.proofs.report.Statement.{statement}
 use Rattle.replay.proofs.report.Tie as tie
 
 abbrev Inv-loop : tie.InvT-loop
-Inv-loop t i₀ i = i ≤ 64
+Inv-loop t i₀ i = i ≤ 38
 
 abbrev μ-loop : tie.MeasureT-loop
-μ-loop t i₀ i = 64 - i
+μ-loop t i₀ i = 38 - i
 
 loop-holds : tie.Need-loop-holds Inv-loop μ-loop
 loop-holds c = omega arith

@@ -20,7 +20,7 @@ fn main() -> ExitCode {
             continue;
         }
         match run(&leaf, seed, count) {
-            Ok(_) => println!("{} {count} 0", leaf.name),
+            Ok(made) => println!("{} {count} 0 {made}", leaf.name),
             Err(difference) => {
                 println!("{difference}");
                 differences += 1;

@@ -37,10 +37,6 @@ pub mod oracle_access {
         hca.port_info(port)
     }
 
-    pub fn map_icm(hca: &mut Hca, pci: &mut PciIo, p: &Profile) -> Result<(), Fail> {
-        hca.map_icm(pci, p)
-    }
-
     pub fn profile(cap: &DevCap) -> Result<Profile, Fail> {
         super::profile(cap)
     }

@@ -1,7 +1,7 @@
 use mathlib.Core.Path.{refl, ap, _∙_}
 use borrow.Author.Needs.{needs}
-use Rattle.leaves.specs.Bars.{pairWords}
-use Rattle.leaves.proofs.Laws.{gave}
+use Rattle.answers.specs.Bars.{pairWords}
+use Rattle.answers.proofs.Laws.{gave}
 use Rattle.leaves.proofs.bar.leaf_candidates.Statement.{statement}
 use Rattle.leaves.proofs.bar.leaf_candidates.Tie as tie
 

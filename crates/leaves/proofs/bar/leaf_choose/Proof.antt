@@ -2,9 +2,9 @@ use mathlib.Core.Path.{ap, _∙_}
 use borrow.Author.Needs.{needs}
 use mathlib.Core.List.{[], _∷_}
 use Rattle.bars.specs.Steps.{chooseAt}
-use Rattle.leaves.specs.Bars.{begunWords}
-use Rattle.leaves.proofs.Lengths.{length-begun}
-use Rattle.leaves.proofs.Laws.{gave}
+use Rattle.answers.specs.Bars.{begunWords}
+use Rattle.answers.proofs.Lengths.{length-begun}
+use Rattle.answers.proofs.Laws.{gave}
 use Rattle.leaves.proofs.bar.leaf_choose.Statement.{statement}
 use Rattle.leaves.proofs.bar.leaf_choose.Tie as tie
 

@@ -2,9 +2,9 @@ use mathlib.Core.Path.{ap, ap₂, _∙_}
 use borrow.Author.Needs.{needs}
 use borrow.Author.Tests.{lt-leb, le-leb}
 use Rattle.bars.specs.Steps.{stepOf}
-use Rattle.leaves.specs.Bars.{choiceIn, rangeFrom, nextWords}
-use Rattle.leaves.proofs.Laws.{gave, passed}
-use Rattle.leaves.proofs.Lengths.{length-next}
+use Rattle.answers.specs.Bars.{choiceIn, rangeFrom, nextWords}
+use Rattle.answers.proofs.Laws.{gave, passed}
+use Rattle.answers.proofs.Lengths.{length-next}
 use Rattle.leaves.proofs.bar.leaf_choose_step.Statement.{statement}
 use Rattle.leaves.proofs.bar.leaf_choose_step.Tie as tie
 

@@ -1,9 +1,9 @@
 use mathlib.Core.Path.{ap, _∙_}
 use borrow.Author.Needs.{needs}
 use Rattle.bars.specs.Bars.{resourceAt}
-use Rattle.leaves.specs.Bars.{rangeWords}
-use Rattle.leaves.proofs.Lengths.{length-range}
-use Rattle.leaves.proofs.Laws.{gave}
+use Rattle.answers.specs.Bars.{rangeWords}
+use Rattle.answers.proofs.Lengths.{length-range}
+use Rattle.answers.proofs.Laws.{gave}
 use Rattle.leaves.proofs.bar.leaf_resource.Statement.{statement}
 use Rattle.leaves.proofs.bar.leaf_resource.Tie as tie
 

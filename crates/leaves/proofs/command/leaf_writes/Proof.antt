@@ -1,7 +1,7 @@
 use mathlib.Core.Path.{refl, ap, _∙_}
 use borrow.Author.Needs.{needs}
-use Rattle.leaves.specs.Command.{writesWords}
-use Rattle.leaves.proofs.Laws.{gave}
+use Rattle.answers.specs.Command.{writesWords}
+use Rattle.answers.proofs.Laws.{gave}
 use Rattle.leaves.proofs.command.leaf_writes.Statement.{statement}
 use Rattle.leaves.proofs.command.leaf_writes.Tie as tie
 

@@ -5,8 +5,8 @@ use lib.Dec.{leb}
 use Rattle.fields.specs.Outcome.{pick, refused}
 use Rattle.fields.specs.Fields.{fieldAt}
 use Rattle.fields.specs.declared.Order.{Order}
-use Rattle.leaves.specs.Words.{numberWords}
-use Rattle.leaves.proofs.Laws.{gave}
+use Rattle.answers.specs.Words.{numberWords}
+use Rattle.answers.proofs.Laws.{gave}
 use Rattle.leaves.proofs.field.leaf_field.Statement.{statement}
 use Rattle.leaves.proofs.field.leaf_field.Tie as tie
 

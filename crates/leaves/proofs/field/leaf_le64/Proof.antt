@@ -1,7 +1,7 @@
 use mathlib.Core.Path.{refl, ap, _∙_}
 use borrow.Author.Needs.{needs}
-use Rattle.leaves.specs.Words.{numberWords}
-use Rattle.leaves.proofs.Laws.{gave}
+use Rattle.answers.specs.Words.{numberWords}
+use Rattle.answers.proofs.Laws.{gave}
 use Rattle.leaves.proofs.field.leaf_le64.Statement.{statement}
 use Rattle.leaves.proofs.field.leaf_le64.Tie as tie
 

@@ -7,9 +7,9 @@ use Rattle.reply.specs.declared.DevCap.{DevCap}
 use Rattle.layout.specs.Layout.{noLayout}
 use Rattle.init.specs.Init.{filledBy, fieldsOf, initOf}
 use Rattle.init.specs.declared.InitHca.{InitHca}
-use Rattle.leaves.specs.Replies.{sizeFrom}
-use Rattle.leaves.specs.Tables.{layoutFor}
-use Rattle.leaves.specs.declared.tables.Judged.{Judged}
+use Rattle.answers.specs.Replies.{sizeFrom}
+use Rattle.answers.specs.Tables.{layoutFor}
+use Rattle.answers.specs.declared.tables.Judged.{Judged}
 use Rattle.leaves.proofs.mailboxes.leaf_init_hca.Statement.{statement}
 use Rattle.leaves.proofs.mailboxes.leaf_init_hca.Tie as tie
 

@@ -2,9 +2,9 @@ use mathlib.Core.Path.{ap, _∙_}
 use borrow.Author.Needs.{needs}
 use Rattle.dma.specs.Blocks.{startAt}
 use Rattle.dma.specs.declared.Virt.{Virt}
-use Rattle.leaves.specs.Memory.{virtFrom, startedWords}
-use Rattle.leaves.proofs.Lengths.{length-started}
-use Rattle.leaves.proofs.Laws.{gave}
+use Rattle.answers.specs.Memory.{virtFrom, startedWords}
+use Rattle.answers.proofs.Lengths.{length-started}
+use Rattle.answers.proofs.Laws.{gave}
 use Rattle.leaves.proofs.memory.leaf_blocks.Statement.{statement}
 use Rattle.leaves.proofs.memory.leaf_blocks.Tie as tie
 

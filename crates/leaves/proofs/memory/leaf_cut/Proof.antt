@@ -1,9 +1,9 @@
 use mathlib.Core.Path.{ap, _∙_}
 use borrow.Author.Needs.{needs}
 use Rattle.dma.specs.Blocks.{cutOf}
-use Rattle.leaves.specs.Memory.{cutterFrom, pieceWords}
-use Rattle.leaves.proofs.Lengths.{length-piece}
-use Rattle.leaves.proofs.Laws.{gave}
+use Rattle.answers.specs.Memory.{cutterFrom, pieceWords}
+use Rattle.answers.proofs.Lengths.{length-piece}
+use Rattle.answers.proofs.Laws.{gave}
 use Rattle.leaves.proofs.memory.leaf_cut.Statement.{statement}
 use Rattle.leaves.proofs.memory.leaf_cut.Tie as tie
 

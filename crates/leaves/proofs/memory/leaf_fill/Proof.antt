@@ -3,9 +3,9 @@ use borrow.Author.Needs.{needs}
 use borrow.Author.Tests.{lt-leb, le-leb}
 use Rattle.dma.specs.PageList.{fillAt, filledAt}
 use Rattle.dma.specs.declared.Cutter.{Cutter}
-use Rattle.leaves.specs.Memory.{cutterFrom, listedWords}
-use Rattle.leaves.proofs.Laws.{gave, passed}
-use Rattle.leaves.proofs.Lengths.{length-listed}
+use Rattle.answers.specs.Memory.{cutterFrom, listedWords}
+use Rattle.answers.proofs.Laws.{gave, passed}
+use Rattle.answers.proofs.Lengths.{length-listed}
 use Rattle.leaves.proofs.memory.leaf_fill.Statement.{statement}
 use Rattle.leaves.proofs.memory.leaf_fill.Tie as tie
 

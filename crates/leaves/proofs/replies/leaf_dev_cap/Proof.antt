@@ -3,9 +3,9 @@ use borrow.Author.Needs.{needs}
 use Rattle.fields.specs.Outcome.{valueOr}
 use Rattle.bars.specs.declared.Size.{Size}
 use Rattle.reply.specs.Capability.{capabilityOf, noCaps}
-use Rattle.leaves.specs.Replies.{capWords, codeOf}
-use Rattle.leaves.proofs.Codes.{code-cap}
-use Rattle.leaves.proofs.Laws.{gave}
+use Rattle.answers.specs.Replies.{capWords, codeOf}
+use Rattle.answers.proofs.Codes.{code-cap}
+use Rattle.answers.proofs.Laws.{gave}
 use Rattle.leaves.proofs.replies.leaf_dev_cap.Statement.{statement}
 use Rattle.leaves.proofs.replies.leaf_dev_cap.Tie as tie
 

@@ -1,9 +1,9 @@
 use mathlib.Core.Path.{refl, ap, ap₂, _∙_}
 use borrow.Author.Needs.{needs}
 use Rattle.reply.specs.Replies.{queryFuncOf}
-use Rattle.leaves.specs.Replies.{funcWords}
-use Rattle.leaves.proofs.Lengths.{length-func}
-use Rattle.leaves.proofs.Laws.{gave}
+use Rattle.answers.specs.Replies.{funcWords}
+use Rattle.answers.proofs.Lengths.{length-func}
+use Rattle.answers.proofs.Laws.{gave}
 use Rattle.leaves.proofs.replies.leaf_query_func.Statement.{statement}
 use Rattle.leaves.proofs.replies.leaf_query_func.Tie as tie
 

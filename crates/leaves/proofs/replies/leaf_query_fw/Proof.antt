@@ -1,8 +1,8 @@
 use mathlib.Core.Path.{refl, ap, ap₂, _∙_}
 use borrow.Author.Needs.{needs}
-use Rattle.leaves.specs.Replies.{fwWords, codeOf}
-use Rattle.leaves.proofs.Codes.{code-fw}
-use Rattle.leaves.proofs.Laws.{gave}
+use Rattle.answers.specs.Replies.{fwWords, codeOf}
+use Rattle.answers.proofs.Codes.{code-fw}
+use Rattle.answers.proofs.Laws.{gave}
 use Rattle.leaves.proofs.replies.leaf_query_fw.Statement.{statement}
 use Rattle.leaves.proofs.replies.leaf_query_fw.Tie as tie
 

@@ -1,9 +1,9 @@
 use mathlib.Core.Path.{refl, ap, ap₂, _∙_}
 use borrow.Author.Needs.{needs}
 use Rattle.fields.specs.Outcome.{numberOf}
-use Rattle.leaves.specs.Replies.{portWords}
-use Rattle.leaves.proofs.Codes.{code-port}
-use Rattle.leaves.proofs.Laws.{gave}
+use Rattle.answers.specs.Replies.{portWords}
+use Rattle.answers.proofs.Codes.{code-port}
+use Rattle.answers.proofs.Laws.{gave}
 use Rattle.leaves.proofs.replies.leaf_query_port.Statement.{statement}
 use Rattle.leaves.proofs.replies.leaf_query_port.Tie as tie
 

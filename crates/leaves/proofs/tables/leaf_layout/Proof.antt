@@ -10,12 +10,12 @@ use Rattle.reply.specs.Capability.{capability, capabilityOf, noCaps}
 use Rattle.reply.specs.declared.DevCap.{DevCap}
 use Rattle.layout.specs.Layout.{noLayout}
 use Rattle.layout.specs.Counts.{baseSqpn, firstFreeMtt}
-use Rattle.leaves.specs.Words.{putWords}
-use Rattle.leaves.specs.Replies.{sizeFrom, codeOf}
-use Rattle.leaves.specs.Tables.{layoutFor, judgedOf, rowsWords, rangesWords, layoutWords}
-use Rattle.leaves.specs.declared.tables.Judged.{Judged}
-use Rattle.leaves.proofs.Laws.{passed}
-use Rattle.leaves.proofs.Rows.{whole, put-whole}
+use Rattle.answers.specs.Words.{putWords}
+use Rattle.answers.specs.Replies.{sizeFrom, codeOf}
+use Rattle.answers.specs.Tables.{layoutFor, judgedOf, rowsWords, rangesWords, layoutWords}
+use Rattle.answers.specs.declared.tables.Judged.{Judged}
+use Rattle.answers.proofs.Laws.{passed}
+use Rattle.answers.proofs.Rows.{whole, put-whole}
 use Rattle.leaves.proofs.tables.leaf_layout.Statement.{statement}
 use Rattle.leaves.proofs.tables.leaf_layout.Tie as tie
 

@@ -1,0 +1,20 @@
+use borrow.Author.Needs.{needs}
+use Rattle.answers.proofs.bar.indices_words.Statement.{statement}
+use Rattle.answers.proofs.bar.indices_words.Tie as tie
+
+returns : tie.Need-returns
+returns c = rw (c .before .i .given .1)
+
+returns-2 : tie.Need-returns-2
+returns-2 c = rw (c .enum-told .given .1)
+
+pub indices-words-spec : {M : Type 1} → statement M
+indices-words-spec =
+    tie.close
+    (tie.spec
+    (λ c. search needs)
+    (λ c. search needs)
+    (λ c. search needs)
+    (λ c. search needs)
+    returns
+    returns-2)

@@ -1,0 +1,16 @@
+use borrow.Author.Needs.{needs}
+use Rattle.answers.proofs.bar.range_from.Statement.{statement}
+use Rattle.answers.proofs.bar.range_from.Tie as tie
+
+returns : tie.Need-returns
+returns c = rw (c .if1 .taken)
+
+returns-2 : tie.Need-returns-2
+returns-2 c = rw (c .if1 .left)
+
+pub range-from-spec : {M : Type 1} → statement M
+range-from-spec =
+    tie.close
+    (tie.spec
+    returns
+    returns-2)

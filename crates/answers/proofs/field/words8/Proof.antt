@@ -1,0 +1,22 @@
+use mathlib.Core.Path.{ap, sym}
+use borrow.Author.Needs.{needs}
+use Rattle.fields.specs.Fields.{read8}
+use Rattle.answers.specs.Words.{numberWords}
+use Rattle.answers.proofs.field.words8.Statement.{statement}
+use Rattle.answers.proofs.field.words8.Tie as tie
+
+returns : tie.Need-returns
+returns c = rw (c .before .r .given .1)
+
+returns-2 : tie.Need-returns-2
+returns-2 c = rw (c .enum-told .given .1)
+
+pub words8-spec : {M : Type 1} → statement M
+words8-spec =
+    tie.close
+    (tie.spec
+    (λ c. search needs)
+    (λ c. search needs)
+    (λ c. search needs)
+    returns
+    returns-2)
