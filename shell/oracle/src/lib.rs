@@ -1,7 +1,7 @@
 //! The reference of document 01: the driver's Rust, unchanged and without
 //! overflow checks, over a `world::bus::Bus` in place of UEFI.
 //!
-//! `leaves` has its functions without a bus, `parts` smaller ones, `run` its calls.
+//! `leaves` has its functions without a bus, `parts` smaller ones, `machines` its tasks one at a time, `run` its calls.
 
 extern crate alloc;
 
@@ -9,6 +9,7 @@ extern crate alloc;
 mod console;
 mod glue;
 pub mod leaves;
+pub mod machines;
 pub mod parts;
 mod refusal;
 pub mod run;
