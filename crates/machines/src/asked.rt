@@ -61,24 +61,43 @@ pub(crate) fn same(x: Asked, y: Asked) -> bool {
     x.c == y.c
 }
 
-fn name(out: &mut [u8], at: usize, kind: u8) -> usize {
+fn config(out: &mut [u8], at: usize, kind: u8) -> usize {
     match kind {
         0 => text::word(out, at, b"config_read16"),
         1 => text::word(out, at, b"config_read32"),
         2 => text::word(out, at, b"config_write16"),
-        3 => text::word(out, at, b"config_write32"),
+        _ => text::word(out, at, b"config_write32"),
+    }
+}
+
+fn device(out: &mut [u8], at: usize, kind: u8) -> usize {
+    match kind {
         4 => text::word(out, at, b"reg_read"),
         5 => text::word(out, at, b"reg_write"),
         6 => text::word(out, at, b"attributes"),
         7 => text::word(out, at, b"resource"),
-        8 => text::word(out, at, b"stall"),
+        _ => text::word(out, at, b"stall"),
+    }
+}
+
+fn memory(out: &mut [u8], at: usize, kind: u8) -> usize {
+    match kind {
         9 => text::word(out, at, b"allocate"),
         10 => text::word(out, at, b"map"),
         11 => text::word(out, at, b"unmap"),
         12 => text::word(out, at, b"free"),
-        13 => text::word(out, at, b"fence"),
         _ => text::word(out, at, b"finished"),
     }
+}
+
+fn name(out: &mut [u8], at: usize, kind: u8) -> usize {
+    if kind < 4 {
+        return config(out, at, kind);
+    }
+    if kind < 9 {
+        return device(out, at, kind);
+    }
+    memory(out, at, kind)
 }
 
 fn arguments(out: &mut [u8], at: usize, q: Asked) -> usize {

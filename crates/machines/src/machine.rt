@@ -77,20 +77,29 @@ pub(crate) fn asks(m: Machine) -> Question {
 pub(crate) fn step(m: Machine, a: Answer, list: &[u8]) -> Machine {
     let task = m.task;
     match task {
-        Task::Command(t) => on(m, commanded(m.told, t.step(a))),
         Task::Reset => reset_on(m, a),
-        Task::Making(t) => on(m, made(t.step(a))),
-        Task::Freeing(t) => on(m, freed(t.step(a))),
-        Task::Attr(t) => on(m, enabled(t.step(a))),
-        Task::Claim(t) => on(m, claimed(t.step(a))),
-        Task::Parting(t) => on(m, parted(t.step(a))),
         Task::Find => found(m, a, list),
-        Task::Over(_) => m,
+        _ => on(m, stepped(task, m.told, a)),
     }
 }
 
 fn on(m: Machine, task: Task) -> Machine {
     Machine { task, ..m }
+}
+
+// A task that stands alone.
+fn stepped(task: Task, told: bool, a: Answer) -> Task {
+    match task {
+        Task::Command(t) => commanded(told, t.step(a)),
+        Task::Reset => task,
+        Task::Making(t) => made(t.step(a)),
+        Task::Freeing(t) => freed(t.step(a)),
+        Task::Attr(t) => enabled(t.step(a)),
+        Task::Claim(t) => claimed(t.step(a)),
+        Task::Parting(t) => parted(t.step(a)),
+        Task::Find => task,
+        Task::Over(_) => task,
+    }
 }
 
 fn bit(b: bool) -> u64 {
