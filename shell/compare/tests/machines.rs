@@ -67,7 +67,8 @@ fn a_reset_at_its_limits() {
     same(&runs);
 }
 
-/// Every kind of end is reached by the first runs of the seed; a Timeout by the test above.
+/// Every kind of end is reached by the first runs of the seed; a Timeout and a vendor that
+/// stays away by the tests above.
 #[test]
 fn every_end_is_reached() {
     let reached = |machine: usize, ends: &[&str]| {
@@ -77,7 +78,7 @@ fn every_end_is_reached() {
         }
     };
     reached(0, &["ended 0 ", "ended 6 ", "ended 8 ", "ended 9 "]);
-    reached(1, &["ended 0 ", "ended 3 1 ", "ended 3 2 0 ", "ended 3 3 ", "ended 3 4 "]);
+    reached(1, &["ended 0 ", "ended 3 1 ", "ended 3 2 0 ", "ended 3 3 "]);
     reached(2, &["ended 0 ", "ended 5 "]);
     reached(4, &["ended 0 ", "ended 1 "]);
     reached(5, &["ended 0 ", "ended 2 "]);
