@@ -7,6 +7,7 @@ pub mod bars;
 pub mod command;
 pub mod ffi;
 pub mod fields;
+pub mod machines;
 pub mod memory;
 pub mod openings;
 pub mod replies;

@@ -1,8 +1,8 @@
 //! The reference of document 01: the driver's Rust, unchanged and without
 //! overflow checks, over a `world::bus::Bus` in place of UEFI.
 //!
-//! `leaves` has its functions without a bus, `parts` smaller ones, `run` its
-//! calls, `openings` many openings in little time.
+//! `leaves` has its functions without a bus, `parts` smaller ones, `machines` its
+//! tasks one at a time, `run` its calls, `openings` many openings in little time.
 
 extern crate alloc;
 
@@ -10,6 +10,7 @@ extern crate alloc;
 mod console;
 mod glue;
 pub mod leaves;
+pub mod machines;
 pub mod openings;
 pub mod parts;
 mod refusal;

@@ -79,4 +79,27 @@ pub mod oracle_access {
             original: hca.original,
         }
     }
+
+    pub fn reset(pci: &mut PciIo) -> Result<(), Fail> {
+        super::reset(pci)
+    }
+
+    pub fn claim(pci: &mut PciIo) -> Result<(), Fail> {
+        super::claim(pci)
+    }
+
+    /// With the wait, as an opening that fails and a closing do it.
+    pub fn release(pci: &mut PciIo) {
+        super::release(pci, true);
+    }
+
+    pub fn restore(pci: &mut PciIo, original: u64) {
+        super::restore(pci, original);
+    }
+
+    /// `quiesce` of a session that is broken: no command is sent.
+    pub fn quiesce_broken(hca: &mut Hca, pci: &mut PciIo) {
+        hca.broken = true;
+        quiesce(hca, pci);
+    }
 }

@@ -17,4 +17,9 @@ pub mod oracle_access {
     pub fn post(hcr: &mut Hcr, pci: &mut PciIo, op: Op, op_mod: u8, in_mod: u32, params: [u64; 2]) -> Result<u64, CmdError> {
         hcr.post(pci, op, op_mod, in_mod, params[0], params[1])
     }
+
+    /// A command register as it may stand between two commands.
+    pub fn register(toggle: bool, inbox: DmaBuf, outbox: DmaBuf, catas: Option<(u8, u64)>, silent: bool) -> Hcr {
+        Hcr { toggle: toggle.into(), inbox, outbox, catas, quiet: false, silent, optional: false }
+    }
 }
