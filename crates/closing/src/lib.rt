@@ -103,7 +103,7 @@ fn is_held(h: Hold) -> bool
 }
 
 // The books once all is freed.
-fn emptied_books(b: Books) -> Books
+pub fn emptied_books(b: Books) -> Books
     ensures { λ r. ⌜ r ≡ emptied b ⌝ }
 {
     let was = b.lists;

@@ -1,5 +1,5 @@
 -- Each mailbox takes something of its area, so that there are no more mailboxes than bytes, and the number of those that may follow does not matter.
-use Prim.Native.Nat.{ℕ, zero, suc, _-_, _≤_, _<_, _^_}
+use Prim.Native.Nat.{ℕ, zero, suc, _-_, _≤_, _<_, _%_, _^_}
 use mathlib.Core.Bool.{Bool, true, false}
 use mathlib.Core.Path.{_≡_, refl, ap, sym, _∙_}
 use native.Mathlib.Omega.{arith}
@@ -57,12 +57,12 @@ module _ (a : Area) (next : Books → Here → Course Rest) (n : Info) where
   -- one more mailbox, and then the rest
   abbrev pub onward : (Books → Here → Course Rest) → Cutter → Books → Here → Course Rest
   onward rest c b h =
-      sends b (withInOf (b .held) (opFor a) (length (firstBlocks 63 256 c))) (λ r d j. onGood r (λ e i. rest e i) n d j)
+      sends b (withInOf (b .held) (opFor a) (length (firstBlocks 63 256 c) % 2 ^ 32)) (λ r d j. onGood r (λ e i. rest e i) n d j)
       (holds (filledAt 63 256 c (h .inbox)) h)
 
   pub onward-same : (f g : Books → Here → Course Rest) (c : Cutter) (b : Books) (h : Here) → ((d : Books) (j : Here) → f d j ≡ g d j) → onward f c b h ≡ onward g c b h
   onward-same f g c b h e =
-      run-same neither (command (catasFor (b .wire)) (filledAt 63 256 c (h .inbox)) (b .wire .toggle) (withInOf (b .held) (opFor a) (length (firstBlocks 63 256 c)))) _ _ _
+      run-same neither (command (catasFor (b .wire)) (filledAt 63 256 c (h .inbox)) (b .wire .toggle) (withInOf (b .held) (opFor a) (length (firstBlocks 63 256 c) % 2 ^ 32))) _ _ _
       (λ x j. ap (λ (t : Course Rest). pick (isDone (x .result)) t (failsBy (x .result) n (wired b (after (b .wire) x)) j)) (e (wired b (after (b .wire) x)) j))
 
   step-any : (f g : Books → Here → Course Rest) (c : Cutter) (b : Books) (h : Here) (t : Bool) → eqb (c .left) 0 ≡ t
@@ -77,8 +77,8 @@ module _ (a : Area) (next : Books → Here → Course Rest) (n : Info) where
   mapping-any (suc k) (suc j) c b h p q =
       step-any (λ e i. mapping a next k (behind 63 256 c) n e i) (λ e i. mapping a next j (behind 63 256 c) n e i) c b h (eqb (c .left) 0) refl
       (λ z d i. mapping-any k j (behind 63 256 c) d i
-          (let l = behind-less 255 c z in let g : behind 63 256 c .left ≤ k = omega arith in g)
-          (let l = behind-less 255 c z in let g : behind 63 256 c .left ≤ j = omega arith in g))
+      (let l = behind-less 255 c z in let g : behind 63 256 c .left ≤ k = omega arith in g)
+      (let l = behind-less 255 c z in let g : behind 63 256 c .left ≤ j = omega arith in g))
 
   pub mapping-suc : (k : ℕ) (c : Cutter) (b : Books) (h : Here) → eqb (c .left) 0 ≡ false
       → onward (λ e i. mapping a next k (behind 63 256 c) n e i) c b h ≡ mapping a next (suc k) c n b h

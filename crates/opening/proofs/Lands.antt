@@ -1,5 +1,5 @@
 -- Each plan of an opening begins what its course says.
-use Prim.Native.Nat.{ℕ, zero, suc, _+_, _*_, _/_, _-_, _<_, _≤_}
+use Prim.Native.Nat.{ℕ, zero, suc, _+_, _*_, _/_, _-_, _<_, _≤_, _%_, _^_}
 use mathlib.Core.Bool.{Bool, true, false}
 use mathlib.Core.List.{List, [], _∷_, _++_}
 use mathlib.Core.Path.{_≡_, refl, ap, sym, _∙_}
@@ -128,7 +128,7 @@ unfolding funcPlan queryFunc
 func-leads s h =
     pick-leads (eqb (s .info .cap .«num_sys_eqs») 0) _ _ h _ _ (adapter-leads s h)
     (send-leads s k.Func (withOutOf (s .books .held) 0x056 0)
-        (λ r d j. onGood r (λ b i. onValue (queryFuncOf (i .outbox)) (λ y. queryAdapter (withFunc (s .info) y) b i) (s .info) b i) (s .info) d j) (λ v j. refl) (zeroed outbox h))
+    (λ r d j. onGood r (λ b i. onValue (queryFuncOf (i .outbox)) (λ y. queryAdapter (withFunc (s .info) y) b i) (s .info) b i) (s .info) d j) (λ v j. refl) (zeroed outbox h))
 
 init-leads : (s : Session) (h : Here) → leads (givePlan s k.InitHca 0x007 w.InitHca (h .undo)) h ≡ initHca (s .info) (s .books) h
 unfolding initHca
@@ -183,11 +183,11 @@ map-by s a y h true d = mapped-leads s a h ∙ sym (mapping-none a (nextOf a (s 
 map-by s a y h false d =
     let z = eqb-false (y .left) 0 d in let l = behind-less 255 y z in
     let m : suc (y .left - 1) ≡ y .left = positive (y .left) z in
-    send-leads (starts s (g.Boot (k.Map a y)) t.Rest) (k.Map a (behind 63 256 y)) (withInOf (s .books .held) (opFor a) (length (firstBlocks 63 256 y)))
-        (λ r c j. onGood r (λ b i. mapping a (nextOf a (s .info)) (behind 63 256 y .left) (behind 63 256 y) (s .info) b i) (s .info) c j) (λ v j. refl)
-        (holds (filledAt 63 256 y (h .inbox)) h)
+    send-leads (starts s (g.Boot (k.Map a y)) t.Rest) (k.Map a (behind 63 256 y)) (withInOf (s .books .held) (opFor a) (length (firstBlocks 63 256 y) % 2 ^ 32))
+    (λ r c j. onGood r (λ b i. mapping a (nextOf a (s .info)) (behind 63 256 y .left) (behind 63 256 y) (s .info) b i) (s .info) c j) (λ v j. refl)
+    (holds (filledAt 63 256 y (h .inbox)) h)
     ∙ (onward-same a (nextOf a (s .info)) (s .info) _ _ y (s .books) h
-        (λ b j. mapping-any a (nextOf a (s .info)) (s .info) (behind 63 256 y .left) (y .left - 1) (behind 63 256 y) b j (let g : behind 63 256 y .left ≤ behind 63 256 y .left = omega arith in g) l)
+    (λ b j. mapping-any a (nextOf a (s .info)) (s .info) (behind 63 256 y .left) (y .left - 1) (behind 63 256 y) b j (let g : behind 63 256 y .left ≤ behind 63 256 y .left = omega arith in g) l)
     ∙ (mapping-suc a (nextOf a (s .info)) (s .info) (y .left - 1) y (s .books) h d ∙ ap (λ (i : ℕ). mapping a (nextOf a (s .info)) i y (s .info) (s .books) h) m))
 
 map-leads : (s : Session) (a : Area) (y : Cutter) (h : Here) → leads (mapPlan s a y (h .undo)) h ≡ mapping a (nextOf a (s .info)) (y .left) y (s .info) (s .books) h
@@ -204,7 +204,7 @@ layout-by : (s : Session) (v : Outcome Layout) (h : Here) → profileOf (s .info
 unfolding layoutPlan setIcmSize
 layout-by s (value y) h d =
     send-leads s k.IcmSize (immOf 0xffd 0 0 (y .total))
-        (λ r b j. onGood r (λ c i. areaFor a.Aux (immediateOf r * 4096) (mapIcm 14 0 (s .info)) (s .info) c i) (s .info) b j) (λ v j. refl) h
+    (λ r b j. onGood r (λ c i. areaFor a.Aux (immediateOf r * 4096) (mapIcm 14 0 (s .info)) (s .info) c i) (s .info) b j) (λ v j. refl) h
     ∙ ap (λ (i : ℕ). sends (s .books) (immOf 0xffd 0 0 i) (λ r b j. onGood r (λ c i. areaFor a.Aux (immediateOf r * 4096) (mapIcm 14 0 (s .info)) (s .info) c i) (s .info) b j) h) (ap (λ (v : Outcome Layout). valueOr noLayout v .total) (sym d))
 layout-by s (refused i vs) h d = fail-leads s (refusalOf i vs) h
 
@@ -221,7 +221,7 @@ port-by s i h true d =
     let l : i < portsOf (s .info) = ltb-true i (portsOf (s .info)) d in let m : portsOf (s .info) - i ≡ suc (portsOf (s .info) - suc i) = omega arith in
     ap (λ (j : ℕ). leads (askPlan s (k.Port j) 0x043 j (h .undo)) h) (add-one i)
     ∙ (send-leads s (k.Port (suc i)) (withOutOf (s .books .held) 0x043 (suc i))
-        (λ r d j. onGood r (λ b v. onValue (queryPortOf (v .outbox) (suc i)) (λ y. queryPorts (portsOf (s .info) - suc i) (suc (suc i)) (withPort (s .info) (suc i) y) b v) (s .info) b v) (s .info) d j) (λ v j. refl) (zeroed outbox h)
+    (λ r d j. onGood r (λ b v. onValue (queryPortOf (v .outbox) (suc i)) (λ y. queryPorts (portsOf (s .info) - suc i) (suc (suc i)) (withPort (s .info) (suc i) y) b v) (s .info) b v) (s .info) d j) (λ v j. refl) (zeroed outbox h)
     ∙ sym (ap (λ (j : ℕ). queryPorts j (suc i) (s .info) (s .books) h) m))
 port-by s i h false d =
     let l : portsOf (s .info) ≤ i = ltb-false i (portsOf (s .info)) d in let m : portsOf (s .info) - i ≡ 0 = omega arith in
@@ -275,7 +275,7 @@ stat-leads s h = send-leads s k.ModStat (withInOf (s .books .held) 0x034 0) (λ 
 cap-leads : (s : Session) (h : Here) → leads (askPlan s k.DevCap 0x003 0 (h .undo)) h ≡ queryDevCap (s .info) (s .books) h
 unfolding queryDevCap
 cap-leads s h = send-leads s k.DevCap (withOutOf (s .books .held) 0x003 0)
-        (λ r d j. onGood r (λ b i. onValue (capabilityOf (i .outbox) (s .info .uar .size)) (λ y. queryPorts (portsOf (withCap (s .info) y)) 1 (withCap (s .info) y) b i) (s .info) b i) (s .info) d j) (λ v j. refl) (zeroed outbox h)
+    (λ r d j. onGood r (λ b i. onValue (capabilityOf (i .outbox) (s .info .uar .size)) (λ y. queryPorts (portsOf (withCap (s .info) y)) 1 (withCap (s .info) y) b i) (s .info) b i) (s .info) d j) (λ v j. refl) (zeroed outbox h)
 
 -- WHEN A TASK OF BRING-UP HAS ENDED, the plan leads where the course goes on
 pub boot-lands : (st : Boot) (s : Session) (y : End) (h : Here) → leads (bootPlan s st y (h .outbox) (h .undo)) h ≡ afterBoot st s y h
@@ -298,7 +298,7 @@ boot-lands k.Adapter s y h = refl
 fw-leads : (s : Session) (h : Here) → leads (askPlan s k.QueryFw 0x004 0 (h .undo)) h ≡ queryFw (s .info) (s .books) h
 unfolding queryFw
 fw-leads s h = send-leads s k.QueryFw (withOutOf (s .books .held) 0x004 0)
-        (λ r d j. pick (isDone r) (fwReply (s .info) d j) (fails (fwFailureOf r) (s .info) (brokenBy r d) j)) (λ v j. refl) (zeroed outbox h)
+    (λ r d j. pick (isDone r) (fwReply (s .info) d j) (fails (fwFailureOf r) (s .info) (brokenBy r d) j)) (λ v j. refl) (zeroed outbox h)
 
 look-leads : (s : Session) (h : Here) → leads (planned (starts s (g.Prepare p.Look) t.Look) w.Nothing (h .undo .count)) h ≡ look (s .info) (s .books) h
 unfolding look prepareCourse

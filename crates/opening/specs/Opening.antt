@@ -2,7 +2,7 @@
 -- port at revision 3, layout, SET_ICM_SIZE, MAP_ICM_AUX, 14 MAP_ICM, INIT_HCA, QUERY_FUNC if num_sys_eqs is not 0, QUERY_ADAPTER (any failure passed over)."
 -- Before it, as the Rust's `open` and `start`: attributes, claim, reset, the UAR BAR, both mailboxes, the first look at the status dword. It is written from the
 -- last step to the first. "An opening fails by the first other failure, returned after closing has run, with closing's result beside it."
-use Prim.Native.Nat.{ℕ, zero, suc, _*_, _-_}
+use Prim.Native.Nat.{ℕ, zero, suc, _*_, _-_, _%_, _^_}
 use mathlib.Core.Bool.{Bool}
 use mathlib.Core.List.{List}
 use lib.Dec.{eqb}
@@ -98,7 +98,7 @@ unfoldable pub mapping : Area → (next : Books → Here → Course Rest) → (m
 mapping a next zero c n b h = next b h
 mapping a next (suc k) c n b h =
     pick (eqb (c .left) 0) (next b h)
-    (sends b (withInOf (b .held) (opFor a) (length (firstBlocks 63 256 c))) (λ r d j. onGood r (λ e i. mapping a next k (behind 63 256 c) n e i) n d j)
+    (sends b (withInOf (b .held) (opFor a) (length (firstBlocks 63 256 c) % 2 ^ 32)) (λ r d j. onGood r (λ e i. mapping a next k (behind 63 256 c) n e i) n d j)
     (holds (filledAt 63 256 c (h .inbox)) h))
 
 -- a buffer for an area, which is in the books before it is mapped

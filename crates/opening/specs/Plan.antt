@@ -1,5 +1,5 @@
 -- The plan of an opening: what follows when a task has ended, as a function on the session and on the outbox as it is lent then.
-use Prim.Native.Nat.{ℕ, zero, suc, _+_, _*_, _-_}
+use Prim.Native.Nat.{ℕ, zero, suc, _+_, _*_, _-_, _%_, _^_}
 use mathlib.Core.Bool.{Bool, true, false}
 use mathlib.Core.List.{List}
 use lib.Dec.{eqb, ltb}
@@ -33,6 +33,8 @@ use Rattle.buffer.specs.declared.Fault.the-variants as q
 use Rattle.buffer.specs.declared.Made.{Made}
 use Rattle.buffer.specs.declared.Made.the-variants as m
 use Rattle.buffer.specs.declared.MakePhase.the-variants as mp
+use Rattle.buffer.specs.declared.MakeStep.{MakeStep}
+use Rattle.buffer.specs.declared.MakeStep.the-variants as ms
 use Rattle.tasks.specs.declared.Attr.the-variants as ta
 use Rattle.tasks.specs.declared.Attributes.{Attributes}
 use Rattle.tasks.specs.declared.Attributes.the-variants as at
@@ -69,7 +71,6 @@ use Rattle.session.specs.declared.Session.{Session}
 use Rattle.session.specs.declared.Planned.{Planned}
 use Rattle.closing.specs.Closing.{isDone, emptied, parted}
 use Rattle.closing.specs.Plan.{cmdIn, resetIn, resetsOf, restorePlan, releasePlan, stopPlan, tookBooks, onHold}
-
 use Rattle.opening.specs.Values.{refusalOf, faultOf, failureOf, needsReset, fwFailureOf, immediateOf, withToggle, withCatas, withOriginal, withInbox, withOutbox, nowStarted, layoutIn, rangeAt, opFor, enters, cutterFor, withUar, withRevision, withCap, withFunc, withPort}
 use Rattle.opening.specs.Opening.{fails, brokenBy, failsBy, onGood, onValue, holds, opened, queryAdapter, queryFunc, initHca, mapping, onMade, mapIcm, areaFor, layingOut, queryPorts, portsOf, queryDevCap, modStat, runFw, fwReply, queryFw, look, makeOutbox, giveInbox, makeInbox, onFound, findUar, onClaimed, onEnabled}
 
@@ -106,6 +107,9 @@ barIn e.Freed = u.Refused
 barIn (e.Looked y) = u.Refused
 barIn (e.Cmd y) = u.Refused
 barIn e.Parted = u.Refused
+
+abbrev pub noMemory : Made
+noMemory = m.Refused q.Memory
 
 abbrev pub madeIn : End → Made
 madeIn (e.Made y) = y
@@ -160,6 +164,11 @@ immPlan s st op y top = planned (sendsOf s (g.Boot st) (immOf op 0 0 y)) w.Nothi
 
 unfoldable pub funcPlan : Session → Top → Planned
 funcPlan s top = pick (eqb (s .info .cap .«num_sys_eqs») 0) (askPlan s k.Adapter 0x006 0 top) (askPlan s k.Func 0x056 0 top)
+
+-- the making has begun, or is refused before any question
+abbrev pub makeBy : Session → Area → MakeStep → Top → Planned
+makeBy s a (ms.More y) top = planned (starts s (g.Boot (k.Make a)) (t.Make y)) w.Nothing (top .count)
+makeBy s a (ms.Ended y) top = failPlan s x.Address top
 
 unfoldable pub makePlan : Session → Area → (bytes : ℕ) → Top → Planned
 makePlan s a bytes top =
@@ -222,17 +231,38 @@ fwPlan s y out top =
 abbrev pub statPlan : Session → CmdEnd → Top → Planned
 statPlan s y top = pick (needsReset (y .result)) (failByPlan (tookOf s y) (y .result) top) (askPlan (tookOf s y) k.DevCap 0x003 0 top)
 
+abbrev pub mapEnded : Session → Area → Cutter → CmdEnd → Top → Planned
+mapEnded s a rest y top = goodPlan s y (λ d. mapPlan d a rest top) top
+
+abbrev pub runEnded : Session → CmdEnd → Top → Planned
+runEnded s y top = goodPlan s y (λ d. givePlan d k.ModStat 0x034 w.ModStat top) top
+
+abbrev pub capEnded : Session → CmdEnd → List ℕ → Top → Planned
+capEnded s y out top = goodPlan s y (λ d. capReplied d (capabilityOf out (s .info .uar .size)) top) top
+
+abbrev pub portEnded : Session → (n : ℕ) → CmdEnd → List ℕ → Top → Planned
+portEnded s n y out top = goodPlan s y (λ d. portReplied d n (queryPortOf out n) top) top
+
+abbrev pub sizeEnded : Session → CmdEnd → Top → Planned
+sizeEnded s y top = goodPlan s y (λ d. makePlan d a.Aux (immediateOf (y .result) * 4096) top) top
+
+abbrev pub initEnded : Session → CmdEnd → Top → Planned
+initEnded s y top = goodPlan s y (λ d. funcPlan (bookkeeps d (nowStarted (d .books))) top) top
+
+abbrev pub funcEnded : Session → CmdEnd → List ℕ → Top → Planned
+funcEnded s y out top = goodPlan s y (λ d. funcReplied d (queryFuncOf out) top) top
+
 abbrev pub bootPlanAt : Session → End → List ℕ → Top → Boot → Planned
 bootPlanAt s y out top k.QueryFw = fwPlan s (cmdIn y) out top
 bootPlanAt s y out top (k.Make a) = areaPlan s a (madeIn y) top
-bootPlanAt s y out top (k.Map a rest) = goodPlan s (cmdIn y) (λ d. mapPlan d a rest top) top
-bootPlanAt s y out top k.RunFw = goodPlan s (cmdIn y) (λ d. givePlan d k.ModStat 0x034 w.ModStat top) top
+bootPlanAt s y out top (k.Map a rest) = mapEnded s a rest (cmdIn y) top
+bootPlanAt s y out top k.RunFw = runEnded s (cmdIn y) top
 bootPlanAt s y out top k.ModStat = statPlan s (cmdIn y) top
-bootPlanAt s y out top k.DevCap = goodPlan s (cmdIn y) (λ d. capReplied d (capabilityOf out (s .info .uar .size)) top) top
-bootPlanAt s y out top (k.Port n) = goodPlan s (cmdIn y) (λ d. portReplied d n (queryPortOf out n) top) top
-bootPlanAt s y out top k.IcmSize = goodPlan s (cmdIn y) (λ d. makePlan d a.Aux (immediateOf (cmdIn y .result) * 4096) top) top
-bootPlanAt s y out top k.InitHca = goodPlan s (cmdIn y) (λ d. funcPlan (bookkeeps d (nowStarted (d .books))) top) top
-bootPlanAt s y out top k.Func = goodPlan s (cmdIn y) (λ d. funcReplied d (queryFuncOf out) top) top
+bootPlanAt s y out top k.DevCap = capEnded s (cmdIn y) out top
+bootPlanAt s y out top (k.Port n) = portEnded s n (cmdIn y) out top
+bootPlanAt s y out top k.IcmSize = sizeEnded s (cmdIn y) top
+bootPlanAt s y out top k.InitHca = initEnded s (cmdIn y) top
+bootPlanAt s y out top k.Func = funcEnded s (cmdIn y) out top
 bootPlanAt s y out top k.Adapter = openedPlan (tookOf s (cmdIn y)) top
 
 unfoldable pub bootPlan : Session → Boot → End → List ℕ → Top → Planned
@@ -275,6 +305,12 @@ abbrev pub outboxPlan : Session → Made → Top → Planned
 outboxPlan s (m.Ready y) top = planned (starts (bookkeeps s (withOutbox (s .books) y)) (g.Prepare p.Look) t.Look) w.Nothing (top .count)
 outboxPlan s (m.Refused y) top = givesInbox s y top
 
+abbrev pub inboxGiven : Session → Fault → Top → Planned
+inboxGiven s y top = partPlan s (faultOf y) (emptied (s .books)) top
+
+abbrev pub lookedPlan : Session → Bool → Top → Planned
+lookedPlan s y top = askPlan (bookkeeps s (withToggle (s .books) y)) k.QueryFw 0x004 0 top
+
 abbrev pub preparePlanAt : Session → End → Top → Prepare → Planned
 preparePlanAt s y top p.Attributes = attrPlan s (attrIn y) top
 preparePlanAt s y top p.Claim = claimPlan s (claimIn y) top
@@ -282,8 +318,8 @@ preparePlanAt s y top p.Reset = resetPlan s (resetIn y) top
 preparePlanAt s y top p.Bar = barPlan s (barIn y) top
 preparePlanAt s y top p.Inbox = inboxPlan s (madeIn y) top
 preparePlanAt s y top p.Outbox = outboxPlan s (madeIn y) top
-preparePlanAt s y top (p.GiveInbox z) = partPlan s (faultOf z) (emptied (s .books)) top
-preparePlanAt s y top p.Look = askPlan (bookkeeps s (withToggle (s .books) (toggleIn y))) k.QueryFw 0x004 0 top
+preparePlanAt s y top (p.GiveInbox z) = inboxGiven s z top
+preparePlanAt s y top p.Look = lookedPlan s (toggleIn y) top
 
 unfoldable pub preparePlan : Session → Prepare → End → Top → Planned
 preparePlan s st y top = preparePlanAt s y top st
@@ -293,23 +329,26 @@ abbrev pub openPlan : Session → Top → Planned
 openPlan s top = planned (starts s (g.Prepare p.Attributes) (t.Attr ta.Get)) w.Nothing (top .count)
 
 -- WHAT IS WRITTEN to the mailboxes, and the command that posts a page list: its number of entries, and what is left of the area
+abbrev pub listsBoot : Session → Listed → Boot → Session
+listsBoot s y k.QueryFw = s
+listsBoot s y (k.Make z) = s
+listsBoot s y (k.Map a z) = sendsOf s (g.Boot (k.Map a (y .rest))) (withInOf (s .books .held) (opFor a) (y .entries % 2 ^ 32))
+listsBoot s y k.RunFw = s
+listsBoot s y k.ModStat = s
+listsBoot s y k.DevCap = s
+listsBoot s y (k.Port z) = s
+listsBoot s y k.IcmSize = s
+listsBoot s y k.InitHca = s
+listsBoot s y k.Func = s
+listsBoot s y k.Adapter = s
+
 abbrev pub listsAt : Session → Listed → Stage → Session
 listsAt s y g.Fresh = s
 listsAt s y g.Open = s
 listsAt s y g.Ended = s
 listsAt s y (g.Prepare z) = s
+listsAt s y (g.Boot z) = listsBoot s y z
 listsAt s y (g.Close z) = s
-listsAt s y (g.Boot k.QueryFw) = s
-listsAt s y (g.Boot (k.Make z)) = s
-listsAt s y (g.Boot (k.Map a z)) = sendsOf s (g.Boot (k.Map a (y .rest))) (withInOf (s .books .held) (opFor a) (y .entries))
-listsAt s y (g.Boot k.RunFw) = s
-listsAt s y (g.Boot k.ModStat) = s
-listsAt s y (g.Boot k.DevCap) = s
-listsAt s y (g.Boot (k.Port z)) = s
-listsAt s y (g.Boot k.IcmSize) = s
-listsAt s y (g.Boot k.InitHca) = s
-listsAt s y (g.Boot k.Func) = s
-listsAt s y (g.Boot k.Adapter) = s
 
 abbrev pub lists : Session → Listed → Session
 lists s y = listsAt s y (s .stage)

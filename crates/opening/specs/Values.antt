@@ -71,9 +71,12 @@ needsReset r.Busy = true
 needsReset (r.Bus us) = true
 
 -- "10 QUERY_FW status 0x50 in an opening"
+abbrev pub statusRefusal : (s us : ℕ) → Refusal
+statusRefusal s us = pick (eqb s 0x50) x.NotPrimary (x.Status s us)
+
 abbrev pub fwFailureOf : CmdResult → Refusal
 fwFailureOf (r.Done y us) = x.Bus us
-fwFailureOf (r.Status s us) = pick (eqb s 0x50) x.NotPrimary (x.Status s us)
+fwFailureOf (r.Status s us) = statusRefusal s us
 fwFailureOf (r.Timeout us) = x.Timeout us
 fwFailureOf r.Busy = x.Busy
 fwFailureOf (r.Bus us) = x.Bus us
@@ -120,8 +123,11 @@ layoutIn n = valueOr noLayout (profileOf (n .cap))
 abbrev pub noRange : Range
 noRange = record { virt = 0; bytes = 0 }
 
+abbrev pub rangeIn : List Range → ℕ → Range
+rangeIn rs i = getD rs i noRange
+
 abbrev pub rangeAt : Info → ℕ → Range
-rangeAt n i = getD (layoutIn n .ranges) i noRange
+rangeAt n i = rangeIn (layoutIn n .ranges) i
 
 -- an area's card address, its command, and the buffer in the books
 abbrev pub virtFor : Info → Area → Virt
@@ -134,10 +140,19 @@ opFor a.Fa = 0xfff
 opFor a.Aux = 0xffc
 opFor (a.Range i) = 0xffa
 
+abbrev pub withFa : Books → Buffer → Books
+withFa b y = holding b (record { inbox = b .held .inbox; outbox = b .held .outbox; fa = o.Held y; aux = b .held .aux })
+
+abbrev pub withAux : Books → Buffer → Books
+withAux b y = holding b (record { inbox = b .held .inbox; outbox = b .held .outbox; fa = b .held .fa; aux = o.Held y })
+
+abbrev pub withRange : Books → (virt : ℕ) → Buffer → Books
+withRange b virt y = listing b (appended (b .lists) (record { virt = virt; handle = y .handle; dev = y .dev; pages = y .pages }))
+
 abbrev pub enters : Info → Area → Buffer → Books → Books
-enters n a.Fa y b = holding b (record { inbox = b .held .inbox; outbox = b .held .outbox; fa = o.Held y; aux = b .held .aux })
-enters n a.Aux y b = holding b (record { inbox = b .held .inbox; outbox = b .held .outbox; fa = b .held .fa; aux = o.Held y })
-enters n (a.Range i) y b = listing b (appended (b .lists) (record { virt = rangeAt n i .virt; handle = y .handle; dev = y .dev; pages = y .pages }))
+enters n a.Fa y b = withFa b y
+enters n a.Aux y b = withAux b y
+enters n (a.Range i) y b = withRange b (rangeAt n i .virt) y
 
 abbrev pub cutterFor : Info → Area → Buffer → Cutter
 cutterFor n a y = record { virt = virtFor n a; phys = y .dev; left = bytesIn y }
