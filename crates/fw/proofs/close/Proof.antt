@@ -1,0 +1,48 @@
+use mathlib.Core.Path.{refl}
+use borrow.Author.Needs.{needs}
+use Rattle.fw.proofs.close.Statement.{statement}
+use Rattle.fw.proofs.close.Tie as tie
+
+returns : tie.Need-returns
+returns c = (
+  simp (← (c .before .before .before .before .before .before .closable .ensures), c .before .before .before .before .before .if1 .taken, ← (c .before .before .is-lent .ensures), c .before .if2 .taken, c .closing-of .ensures),
+  (
+    refl,
+    refl,
+  ),
+)
+
+returns-2 : tie.Need-returns-2
+returns-2 c = (
+  simp (← (c .before .before .before .before .before .before .closable .ensures), c .before .before .before .before .before .if1 .taken, ← (c .before .before .is-lent .ensures), c .before .if2 .left, c .refused .ensures),
+  (
+    refl,
+    refl,
+  ),
+)
+
+returns-3 : tie.Need-returns-3
+returns-3 c = (
+  simp (← (c .before .before .closable .ensures), c .before .if1 .left, c .refused2 .ensures),
+  (
+    refl,
+    refl,
+  ),
+)
+
+pub close-spec : {M : Type 1} → statement M
+close-spec =
+    tie.close
+    (tie.spec
+    (λ c κs. search needs)
+    (λ c κs. search needs)
+    (λ c κs. search needs)
+    (λ c. search needs)
+    (λ c. search needs)
+    returns
+    (λ c κs. search needs)
+    (λ c. search needs)
+    (λ c. search needs)
+    returns-2
+    (λ c κs. search needs)
+    returns-3)
