@@ -1,2 +1,4 @@
 pub mod Lands
 pub mod Steps
+pub mod Fills
+pub mod Running

@@ -44,7 +44,7 @@ use Rattle.fw.specs.Follows.{courseOf, courseAt}
 abbrev pub counted : Top → ℕ → Top
 counted u n = record { count = n; op = u .op; «op_mod» = u .«op_mod»; «in_mod» = u .«in_mod»; «in_param» = u .«in_param» }
 
-same-course : (st : Stage) (s : Session) (h : Here) → courseAt st s h ≡ z.means prepareCourse bootCourse st s h
+pub same-course : (st : Stage) (s : Session) (h : Here) → courseAt st s h ≡ z.means prepareCourse bootCourse st s h
 same-course g.Fresh s h = refl
 same-course g.Open s h = refl
 same-course g.Ended s h = refl

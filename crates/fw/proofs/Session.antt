@@ -70,12 +70,21 @@ use Rattle.session.specs.declared.Prepare.the-variants as p
 use Rattle.session.specs.declared.Session.{Session}
 use Rattle.closing.specs.Plan.{closeCourse, afterClose}
 use Rattle.opening.specs.Plan.{bootCourse, prepareCourse, afterBoot, afterPrepare, boxOf}
-use Rattle.opening.proofs.Lands.{leads}
-use Rattle.fw.specs.Calls.{asksOf, stepOf, stepIn, stepOut, stepTurn, stepBoxIn, stepBoxOut, withWork, wipeOf, wipeBy, wipePrepare, isAllocate, isGranted, planOf, begunOf, begunIn, begunOut}
+use Rattle.session.specs.Session.{fresh}
+use Rattle.session.specs.declared.Failure.the-variants as fa
+use Rattle.session.specs.declared.Fill.{Fill}
+use Rattle.closing.specs.Closing.{stopping}
+use Rattle.closing.specs.Plan.{stopPlan, planHere}
+use Rattle.closing.proofs.Lands as lc
+use Rattle.closing.proofs.Fills.{stop-fill}
+use Rattle.opening.specs.Opening.{opening}
+use Rattle.opening.specs.Plan.{openPlan}
+use Rattle.opening.proofs.Lands.{leads, wrote, open-lands}
+use Rattle.fw.specs.Calls.{asksOf, stepOf, stepIn, stepOut, stepTurn, stepBoxIn, stepBoxOut, withWork, wipeOf, wipeBy, wipePrepare, isAllocate, isGranted, planOf, begunOf, begunIn, begunOut, closingOf, withoutFailure}
 use Rattle.fw.specs.declared.Wipe.{Wipe}
 use Rattle.fw.specs.declared.Wipe.the-variants as v
 use Rattle.fw.specs.Follows.{courseOf, courseAt, isRunning, hereAfter, Follows}
-use Rattle.fw.proofs.Landed.{begun-leads, counted, at, boot-course, close-course, prepare-course, boot-plan, close-plan, prepare-plan, touched-neither}
+use Rattle.fw.proofs.Landed.{same-course, begun-leads, counted, at, boot-course, close-course, prepare-course, boot-plan, close-plan, prepare-plan, touched-neither}
 
 abbrev Holds : Bool → Type 0
 Holds true = Unit {0}
@@ -324,3 +333,13 @@ by-stage (g.Close st) b n f c u h l r busy = close-follows b n f c u h l busy st
 -- THE THEOREM: every session in which a call is running and a task is under way follows the course of its call, from whatever state
 pub session-follows : (s : Session) (h : Here) → length (h .inbox) ≡ 4096 → isRunning (s .stage) ≡ true → isResting (s .work .task) ≡ false → Follows s h (courseOf s h)
 session-follows s h l r busy = by-stage (s .stage) (s .books) (s .info) (s .failure) (s .closing) (s .work) h l r busy
+
+-- AN OPENING begins with the whole course before it, and so does a closing; "20" and "21" leave everything as it is, by the definitions of the calls
+pub opens : (h : Here) → courseOf (openPlan fresh (h .undo) .session) h ≡ opening h
+opens h = open-lands fresh h
+
+pub closes : (s : Session) (h : Here) → courseOf (closingOf s (h .undo) .session) (here (h .inbox) (h .outbox) (counted (h .undo) (closingOf s (h .undo) .undo))) ≡ stopping (s .info) fa.Nothing (s .books) h
+closes s h =
+    same-course (closingOf s (h .undo) .session .stage) (closingOf s (h .undo) .session) _
+    ∙ (sym (ap (λ (x : Fill). lc.filled prepareCourse bootCourse wrote x (stopPlan (withoutFailure s) (h .undo) .session) (planHere (stopPlan (withoutFailure s) (h .undo)) h)) (stop-fill (withoutFailure s) (h .undo)))
+    ∙ lc.stop-leads prepareCourse bootCourse wrote (withoutFailure s) h)
