@@ -7,14 +7,14 @@ use native.Mathlib.Nat.{add-zero, mod-eq-of-lt}
 use native.Mathlib.Numerals.{add-one}
 use native.Mathlib.Omega.{arith}
 use borrow.Author.Tests.{eq-eqb, eqb-true}
-use lib.ListN.{length, getD, set, drop, length-append}
-use lib.Dec.{eqb}
+use lib.ListN.{length, getD, set, drop, length-append, drop-of-length-le}
+use lib.Dec.{eqb, lit<}
 use lib.Seq.{drop-cons, set-at, set-getD}
 use Rattle.fields.specs.Fields.{digits, putDigits, be, putAt, writtenAt, placeOf}
 use Rattle.fields.specs.Outcome.{pick}
 use Rattle.fields.specs.declared.Order.the-variants.{Big}
 use Rattle.fields.proofs.Laws.{length-put, number-put, put-outside, written-is}
-use Rattle.words.specs.Words.{wordAt, wordsIn, putWords, sameWords, flat, rowsIn}
+use Rattle.words.specs.Words.{wordAt, wordsIn, putWords, sameWords, flat, rowsIn, at, bitOf, Below, cut}
 
 -- a word by its halves
 pub halves : (s : List ℕ) (o : ℕ) → be s o 4 * 4294967296 + be s (o + 4) 4 ≡ be s o 8
@@ -236,3 +236,28 @@ module _ {A : Type 0} (g : List ℕ → A) (f : A → List ℕ) (m : ℕ) (wide 
       let e : k + (i + 1) * m ≡ k + i * m + length (f (getD w i d)) = (let z = wide (getD w i d) in omega arith) in
       rw (drop-cons w i d h, e) (ap (λ (n : ℕ). putWords (putWords s (k + i * m) (f (getD w i d))) (k + i * m + length (f (getD w i d))) (flat f (drop n w))) (add-one i)
       ∙ sym (put-append s (k + i * m) (f (getD w i d)) (flat f (drop (suc i) w))))
+
+-- VALUES as words
+pub words-at : (ws : List ℕ) → Words ws → (i : ℕ) → at ws i < 2 ^ 64
+unfolding Words
+words-at [] f i = lit< tt
+words-at (w ∷ ws) f zero = f .0
+words-at (w ∷ ws) f (suc i) = words-at ws (f .1) i
+
+pub bit-back : (b : Bool) → eqb (bitOf b) 1 ≡ b
+bit-back true = refl
+bit-back false = refl
+
+pub bit-small : (b : Bool) → bitOf b < 2 ^ 64
+bit-small true = lit< tt
+bit-small false = lit< tt
+
+cut-from : (m : ℕ) (w : List ℕ) (i n : ℕ) → Below m w → i + n ≡ length w → cut m w i n ≡ drop i w
+unfolding cut
+cut-from m w i zero b e = sym (drop-of-length-le w {i = i} (omega arith))
+cut-from m w i (suc n) b e =
+    ap (λ (x : ℕ). x ∷ cut m w (i + 1) n) (mod-eq-of-lt (b i)) ∙ ap (λ (l : List ℕ). at w i ∷ l) (cut-from m w (i + 1) n b (omega arith) ∙ ap (λ (k : ℕ). drop k w) (add-one i))
+    ∙ sym (drop-cons w i 0 (omega arith))
+
+pub cut-back : (m : ℕ) (w : List ℕ) {n : ℕ} → length w ≡ n → Below m w → cut m w 0 n ≡ w
+cut-back m w {n} e b = cut-from m w 0 n b (omega arith)

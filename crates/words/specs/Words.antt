@@ -1,8 +1,8 @@
 -- Words of eight bytes in a list of bytes, the byte of the greatest weight first.
-use Prim.Native.Nat.{ℕ, zero, suc, _+_, _*_}
+use Prim.Native.Nat.{ℕ, zero, suc, _+_, _*_, _%_, _<_}
 use mathlib.Core.Bool.{Bool, true, false}
 use mathlib.Core.List.{List, [], _∷_, _++_}
-use lib.ListN.{length}
+use lib.ListN.{length, getD}
 use lib.Dec.{eqb, leb}
 use Rattle.fields.specs.Fields.{be, putAt}
 use Rattle.fields.specs.Outcome.{pick}
@@ -40,3 +40,20 @@ flat f (r ∷ rs) = f r ++ flat f rs
 unfoldable pub rowsIn : {A : Type 0} → (List ℕ → A) → ℕ → List ℕ → (k n : ℕ) → List A
 rowsIn g m s k zero = []
 rowsIn g m s k (suc n) = g (wordsIn s k m) ∷ rowsIn g m s (k + m) n
+
+-- word i of those that stand for a value; a bool as a word
+abbrev pub at : List ℕ → ℕ → ℕ
+at w i = getD w i 0
+
+abbrev pub bitOf : Bool → ℕ
+bitOf true = 1
+bitOf false = 0
+
+-- each is below m
+abbrev pub Below : ℕ → List ℕ → Type 0
+Below m w = (i : ℕ) → at w i < m
+
+-- n of them from number i on, each modulo m
+unfoldable pub cut : ℕ → List ℕ → (i n : ℕ) → List ℕ
+cut m w i zero = []
+cut m w i (suc n) = at w i % m ∷ cut m w (i + 1) n

@@ -2,11 +2,12 @@
 use fields::Read32;
 ghost use mathlib.Core.Bool.{false};
 ghost use mathlib.Core.Path.{_≡_};
-ghost use Prim.Native.Nat.{_+_, _*_, _≤_};
+ghost use Prim.Native.Nat.{_+_, _*_, _%_, _≤_};
 ghost use lib.ListN.{length};
+ghost use lib.Dec.{eqb};
 ghost use Rattle.fields.specs.Fields.{be};
 ghost use Rattle.fields.specs.Outcome.{pick};
-ghost use Rattle.words.specs.Words.{wordAt, wordsIn, putWords, sameWords, within};
+ghost use Rattle.words.specs.Words.{wordAt, wordsIn, putWords, sameWords, within, bitOf};
 
 // The n words from word k on lie within the slice. No sum is made, so no k overflows.
 pub fn room(s: &[u8], k: usize, n: usize) -> bool
@@ -100,4 +101,67 @@ pub fn same(s: &[u8], k: usize, w: &[u64]) -> bool
         return same_all(s, k, w);
     }
     false
+}
+
+// A bool as a word, and back.
+pub fn bit(b: bool) -> u64
+    ensures { λ r. ⌜ r ≡ bitOf b ⌝ }
+{
+    if b { 1 } else { 0 }
+}
+
+pub fn flag(w: u64) -> bool
+    ensures { λ r. ⌜ r ≡ eqb w 1 ⌝ }
+{
+    w == 1
+}
+
+// A narrower number as a word, and its last digits back.
+pub fn wide8(x: u8) -> u64
+    ensures { λ r. ⌜ r ≡ x ⌝ }
+{
+    x as u64
+}
+
+pub fn wide16(x: u16) -> u64
+    ensures { λ r. ⌜ r ≡ x ⌝ }
+{
+    x as u64
+}
+
+pub fn wide32(x: u32) -> u64
+    ensures { λ r. ⌜ r ≡ x ⌝ }
+{
+    x as u64
+}
+
+pub fn narrow8(w: u64) -> u8
+    ensures { λ r. ⌜ r ≡ w % 256 ⌝ }
+{
+    (w % 256) as u8
+}
+
+pub fn narrow16(w: u64) -> u16
+    ensures { λ r. ⌜ r ≡ w % 65536 ⌝ }
+{
+    (w % 65536) as u16
+}
+
+pub fn narrow32(w: u64) -> u32
+    ensures { λ r. ⌜ r ≡ w % 4294967296 ⌝ }
+{
+    (w % 4294967296) as u32
+}
+
+// A count as a word, and back.
+pub fn long(n: usize) -> u64
+    ensures { λ r. ⌜ r ≡ n ⌝ }
+{
+    n as u64
+}
+
+pub fn size(w: u64) -> usize
+    ensures { λ r. ⌜ r ≡ w ⌝ }
+{
+    w as usize
 }
