@@ -85,7 +85,7 @@ phase-small pv.High f = (lit< tt, (lit< tt, tt))
 phase-small (pv.Low x) f = (lit< tt, (omega (arith, f), tt))
 phase-small pv.Catas f = (lit< tt, (lit< tt, tt))
 
-pub cmd-back : (v : Cmd) → CmdFits v → cmdOf (at (cmdWords v) 0) (at (cmdWords v) 1) (at (cmdWords v) 2) (at (cmdWords v) 3) (at (cmdWords v) 4) (at (cmdWords v) 5) (at (cmdWords v) 6) (at (cmdWords v) 7) (at (cmdWords v) 8) (at (cmdWords v) 9) (at (cmdWords v) 10) (at (cmdWords v) 11) ≡ v
+pub cmd-back : (v : Cmd) → CmdFits v → cmdOf (cmdWords v) ≡ v
 cmd-back v f = simp (
   phase-back (v .phase) (f .phase),
   mod-eq-of-lt (f .op),
@@ -98,7 +98,7 @@ cmd-back v f = simp (
 
 pub cmd-small : (v : Cmd) → CmdFits v → Words (cmdWords v)
 unfolding Words
-cmd-small v f = (words-at (phaseWords (v .phase)) (phase-small (v .phase) (f .phase)) 0, (words-at (phaseWords (v .phase)) (phase-small (v .phase) (f .phase)) 1, (omega (arith, f .op), (omega (arith, f .op-mod), (omega (arith, f .in-mod), (f .in-param, (f .out-param, (bit-small (v .toggle), (omega (arith, f .stalls), (words-at (catasWords (v .catas)) (catas-small (v .catas) (f .catas)) 0, (words-at (catasWords (v .catas)) (catas-small (v .catas) (f .catas)) 1, (words-at (catasWords (v .catas)) (catas-small (v .catas) (f .catas)) 2, tt))))))))))))
+cmd-small v f = (lit< tt, (words-at (phaseWords (v .phase)) (phase-small (v .phase) (f .phase)) 0, (words-at (phaseWords (v .phase)) (phase-small (v .phase) (f .phase)) 1, (omega (arith, f .op), (omega (arith, f .op-mod), (omega (arith, f .in-mod), (f .in-param, (f .out-param, (bit-small (v .toggle), (omega (arith, f .stalls), (words-at (catasWords (v .catas)) (catas-small (v .catas) (f .catas)) 0, (words-at (catasWords (v .catas)) (catas-small (v .catas) (f .catas)) 1, (words-at (catasWords (v .catas)) (catas-small (v .catas) (f .catas)) 2, tt)))))))))))))
 
 pub attr-back : (v : Attr) → AttrFits v → attrOf (at (attrWords v) 0) (at (attrWords v) 1) (at (attrWords v) 2) ≡ v
 attr-back av.Get f = refl
@@ -197,7 +197,7 @@ task-small tv.Bar f = (lit< tt, (lit< tt, (lit< tt, (lit< tt, (lit< tt, (lit< tt
 task-small (tv.Make x) f = (lit< tt, (words-at (makingWords x) (making-small x f) 0, (words-at (makingWords x) (making-small x f) 1, (words-at (makingWords x) (making-small x f) 2, (words-at (makingWords x) (making-small x f) 3, (lit< tt, (lit< tt, (lit< tt, (lit< tt, (lit< tt, (lit< tt, (lit< tt, (lit< tt, tt)))))))))))))
 task-small (tv.Free x) f = (lit< tt, (words-at (freeingWords x) (freeing-small x f) 0, (words-at (freeingWords x) (freeing-small x f) 1, (words-at (freeingWords x) (freeing-small x f) 2, (lit< tt, (lit< tt, (lit< tt, (lit< tt, (lit< tt, (lit< tt, (lit< tt, (lit< tt, (lit< tt, tt)))))))))))))
 task-small tv.Look f = (lit< tt, (lit< tt, (lit< tt, (lit< tt, (lit< tt, (lit< tt, (lit< tt, (lit< tt, (lit< tt, (lit< tt, (lit< tt, (lit< tt, (lit< tt, tt)))))))))))))
-task-small (tv.Cmd x) f = (lit< tt, (words-at (cmdWords x) (cmd-small x f) 0, (words-at (cmdWords x) (cmd-small x f) 1, (words-at (cmdWords x) (cmd-small x f) 2, (words-at (cmdWords x) (cmd-small x f) 3, (words-at (cmdWords x) (cmd-small x f) 4, (words-at (cmdWords x) (cmd-small x f) 5, (words-at (cmdWords x) (cmd-small x f) 6, (words-at (cmdWords x) (cmd-small x f) 7, (words-at (cmdWords x) (cmd-small x f) 8, (words-at (cmdWords x) (cmd-small x f) 9, (words-at (cmdWords x) (cmd-small x f) 10, (words-at (cmdWords x) (cmd-small x f) 11, tt)))))))))))))
+task-small (tv.Cmd x) f = cmd-small x f
 task-small (tv.Part x) f = (lit< tt, (words-at (partingWords x) (parting-small x f) 0, (words-at (partingWords x) (parting-small x f) 1, (lit< tt, (lit< tt, (lit< tt, (lit< tt, (lit< tt, (lit< tt, (lit< tt, (lit< tt, (lit< tt, (lit< tt, tt)))))))))))))
 
 pub task-length : (v : Task) → length (taskWords v) ≡ 13

@@ -74,17 +74,17 @@ phaseOf tag a =
     pick (eqb tag 10) pv.Catas (
     pv.First))))))))))
 
--- a command
+-- a command, with the number of its task
 abbrev pub cmdWords : Cmd → List ℕ
-cmdWords v = at (phaseWords (v .phase)) 0 ∷ at (phaseWords (v .phase)) 1 ∷ v .post .op ∷ v .post .«op_mod» ∷ v .post .«in_mod» ∷ v .post .«in_param» ∷ v .post .«out_param» ∷ bitOf (v .toggle) ∷ v .stalls ∷ at (catasWords (v .catas)) 0 ∷ at (catasWords (v .catas)) 1 ∷ at (catasWords (v .catas)) 2 ∷ []
+cmdWords v = 8 ∷ at (phaseWords (v .phase)) 0 ∷ at (phaseWords (v .phase)) 1 ∷ v .post .op ∷ v .post .«op_mod» ∷ v .post .«in_mod» ∷ v .post .«in_param» ∷ v .post .«out_param» ∷ bitOf (v .toggle) ∷ v .stalls ∷ at (catasWords (v .catas)) 0 ∷ at (catasWords (v .catas)) 1 ∷ at (catasWords (v .catas)) 2 ∷ []
 
-abbrev pub cmdOf : (a b d e f g h i j k l m : ℕ) → Cmd
-cmdOf a b d e f g h i j k l m = record {
-  phase = phaseOf a b;
-  post = record { op = d % 65536; «op_mod» = e % 256; «in_mod» = f % 4294967296; «in_param» = g; «out_param» = h };
-  toggle = eqb i 1;
-  stalls = j % 4294967296;
-  catas = catasOf k l m;
+abbrev pub cmdOf : List ℕ → Cmd
+cmdOf w = record {
+  phase = phaseOf (at w 1) (at w 2);
+  post = record { op = at w 3 % 65536; «op_mod» = at w 4 % 256; «in_mod» = at w 5 % 4294967296; «in_param» = at w 6; «out_param» = at w 7 };
+  toggle = eqb (at w 8) 1;
+  stalls = at w 9 % 4294967296;
+  catas = catasOf (at w 10) (at w 11) (at w 12);
 }
 
 -- the attributes
@@ -182,12 +182,12 @@ taskWords tv.Bar = 4 ∷ 0 ∷ 0 ∷ 0 ∷ 0 ∷ 0 ∷ 0 ∷ 0 ∷ 0 ∷ 0 ∷ 0
 taskWords (tv.Make x) = 5 ∷ at (makingWords x) 0 ∷ at (makingWords x) 1 ∷ at (makingWords x) 2 ∷ at (makingWords x) 3 ∷ 0 ∷ 0 ∷ 0 ∷ 0 ∷ 0 ∷ 0 ∷ 0 ∷ 0 ∷ []
 taskWords (tv.Free x) = 6 ∷ at (freeingWords x) 0 ∷ at (freeingWords x) 1 ∷ at (freeingWords x) 2 ∷ 0 ∷ 0 ∷ 0 ∷ 0 ∷ 0 ∷ 0 ∷ 0 ∷ 0 ∷ 0 ∷ []
 taskWords tv.Look = 7 ∷ 0 ∷ 0 ∷ 0 ∷ 0 ∷ 0 ∷ 0 ∷ 0 ∷ 0 ∷ 0 ∷ 0 ∷ 0 ∷ 0 ∷ []
-taskWords (tv.Cmd x) = 8 ∷ at (cmdWords x) 0 ∷ at (cmdWords x) 1 ∷ at (cmdWords x) 2 ∷ at (cmdWords x) 3 ∷ at (cmdWords x) 4 ∷ at (cmdWords x) 5 ∷ at (cmdWords x) 6 ∷ at (cmdWords x) 7 ∷ at (cmdWords x) 8 ∷ at (cmdWords x) 9 ∷ at (cmdWords x) 10 ∷ at (cmdWords x) 11 ∷ []
+taskWords (tv.Cmd x) = cmdWords x
 taskWords (tv.Part x) = 9 ∷ at (partingWords x) 0 ∷ at (partingWords x) 1 ∷ 0 ∷ 0 ∷ 0 ∷ 0 ∷ 0 ∷ 0 ∷ 0 ∷ 0 ∷ 0 ∷ 0 ∷ []
 
 abbrev pub taskOf : List ℕ → Task
 taskOf w =
-    pick (eqb (at w 0) 8) (tv.Cmd (cmdOf (at w 1) (at w 2) (at w 3) (at w 4) (at w 5) (at w 6) (at w 7) (at w 8) (at w 9) (at w 10) (at w 11) (at w 12))) (
+    pick (eqb (at w 0) 8) (tv.Cmd (cmdOf w)) (
     pick (eqb (at w 0) 1) (tv.Attr (attrOf (at w 1) (at w 2) (at w 3))) (
     pick (eqb (at w 0) 2) (tv.Claim (claimOf (at w 1) (at w 2))) (
     pick (eqb (at w 0) 3) tv.Reset (

@@ -92,8 +92,8 @@ fn phase_from(tag: u64, a: u64) -> Phase
     }
 }
 
-// A command.
-fn cmd_words(v: Cmd) -> [u64; 12]
+// A command, with the number of its task.
+fn cmd_words(v: Cmd) -> [u64; 13]
     ensures { λ r. ⌜ r ≡ cmdWords v ⌝ }
 {
     let phase = v.phase;
@@ -102,6 +102,7 @@ fn cmd_words(v: Cmd) -> [u64; 12]
     let catas = v.catas;
     let catas_w = catas_words(catas);
     [
+        8,
         phase_w[0],
         phase_w[1],
         words::wide16(post.op),
@@ -117,34 +118,21 @@ fn cmd_words(v: Cmd) -> [u64; 12]
     ]
 }
 
-fn cmd_from(
-    a: u64,
-    b: u64,
-    d: u64,
-    e: u64,
-    f: u64,
-    g: u64,
-    h: u64,
-    i: u64,
-    j: u64,
-    k: u64,
-    l: u64,
-    m: u64,
-) -> Cmd
-    ensures { λ r. ⌜ r ≡ cmdOf a b d e f g h i j k l m ⌝ }
+fn cmd_from(w: [u64; 13]) -> Cmd
+    ensures { λ r. ⌜ r ≡ cmdOf w ⌝ }
 {
     Cmd {
-        phase: phase_from(a, b),
+        phase: phase_from(w[1], w[2]),
         post: Post {
-            op: words::narrow16(d),
-            op_mod: words::narrow8(e),
-            in_mod: words::narrow32(f),
-            in_param: g,
-            out_param: h,
+            op: words::narrow16(w[3]),
+            op_mod: words::narrow8(w[4]),
+            in_mod: words::narrow32(w[5]),
+            in_param: w[6],
+            out_param: w[7],
         },
-        toggle: words::flag(i),
-        stalls: words::narrow32(j),
-        catas: catas_from(k, l, m),
+        toggle: words::flag(w[8]),
+        stalls: words::narrow32(w[9]),
+        catas: catas_from(w[10], w[11], w[12]),
     }
 }
 
@@ -325,24 +313,7 @@ pub fn task_words(v: Task) -> [u64; 13]
             [6, w[0], w[1], w[2], 0, 0, 0, 0, 0, 0, 0, 0, 0]
         }
         Task::Look => [7, 0, 0, 0, 0, 0, 0, 0, 0, 0, 0, 0, 0],
-        Task::Cmd(x) => {
-            let w = cmd_words(x);
-            [
-                8,
-                w[0],
-                w[1],
-                w[2],
-                w[3],
-                w[4],
-                w[5],
-                w[6],
-                w[7],
-                w[8],
-                w[9],
-                w[10],
-                w[11],
-            ]
-        }
+        Task::Cmd(x) => cmd_words(x),
         Task::Part(x) => {
             let w = parting_words(x);
             [9, w[0], w[1], 0, 0, 0, 0, 0, 0, 0, 0, 0, 0]
@@ -355,20 +326,7 @@ pub fn task_from(w: [u64; 13]) -> Task
 {
     let tag = w[0];
     match tag {
-        8 => Task::Cmd(cmd_from(
-            w[1],
-            w[2],
-            w[3],
-            w[4],
-            w[5],
-            w[6],
-            w[7],
-            w[8],
-            w[9],
-            w[10],
-            w[11],
-            w[12],
-        )),
+        8 => Task::Cmd(cmd_from(w)),
         1 => Task::Attr(attr_from(w[1], w[2], w[3])),
         2 => Task::Claim(claim_from(w[1], w[2])),
         3 => Task::Reset,
