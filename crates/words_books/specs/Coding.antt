@@ -137,9 +137,13 @@ wireOf a b d e f g h = record {
   catas = catasOf f g h;
 }
 
+-- the words of a ledger from those of its parts
+abbrev pub ledgerRow : Ledger → (wire held failure closing : List ℕ) → List ℕ
+ledgerRow v wire held failure closing = v .ranges ∷ v .lends ∷ bitOf (v .started) ∷ v .original ∷ at wire 0 ∷ at wire 1 ∷ at wire 2 ∷ at wire 3 ∷ at wire 4 ∷ at wire 5 ∷ at wire 6 ∷ at held 0 ∷ at held 1 ∷ at held 2 ∷ at held 3 ∷ at held 4 ∷ at held 5 ∷ at held 6 ∷ at held 7 ∷ at held 8 ∷ at held 9 ∷ at held 10 ∷ at held 11 ∷ at held 12 ∷ at held 13 ∷ at held 14 ∷ at held 15 ∷ at failure 0 ∷ at failure 1 ∷ at failure 2 ∷ at failure 3 ∷ at closing 0 ∷ []
+
 -- the ledger: the two counts first
 abbrev pub ledgerWords : Ledger → List ℕ
-ledgerWords v = v .ranges ∷ v .lends ∷ bitOf (v .started) ∷ v .original ∷ at (wireWords (v .wire)) 0 ∷ at (wireWords (v .wire)) 1 ∷ at (wireWords (v .wire)) 2 ∷ at (wireWords (v .wire)) 3 ∷ at (wireWords (v .wire)) 4 ∷ at (wireWords (v .wire)) 5 ∷ at (wireWords (v .wire)) 6 ∷ at (heldWords (v .held)) 0 ∷ at (heldWords (v .held)) 1 ∷ at (heldWords (v .held)) 2 ∷ at (heldWords (v .held)) 3 ∷ at (heldWords (v .held)) 4 ∷ at (heldWords (v .held)) 5 ∷ at (heldWords (v .held)) 6 ∷ at (heldWords (v .held)) 7 ∷ at (heldWords (v .held)) 8 ∷ at (heldWords (v .held)) 9 ∷ at (heldWords (v .held)) 10 ∷ at (heldWords (v .held)) 11 ∷ at (heldWords (v .held)) 12 ∷ at (heldWords (v .held)) 13 ∷ at (heldWords (v .held)) 14 ∷ at (heldWords (v .held)) 15 ∷ at (failureWords (v .failure)) 0 ∷ at (failureWords (v .failure)) 1 ∷ at (failureWords (v .failure)) 2 ∷ at (failureWords (v .failure)) 3 ∷ at (closingWords (v .closing)) 0 ∷ []
+ledgerWords v = ledgerRow v (wireWords (v .wire)) (heldWords (v .held)) (failureWords (v .failure)) (closingWords (v .closing))
 
 abbrev pub ledgerOf : List ℕ → Ledger
 ledgerOf w = record {

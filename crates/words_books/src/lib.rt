@@ -8,7 +8,7 @@ use session::Hold;
 use session::Wire;
 ghost use mathlib.Core.Path.{_≡_};
 ghost use Rattle.words_books.specs.Coding.{refusalWords, refusalOf, failureWords, failureOf, closingWords, closingOf, bufferWords, bufferOf};
-ghost use Rattle.words_books.specs.Coding.{holdWords, holdOf, heldWords, heldOf, wireWords, wireOf, ledgerWords, ledgerOf};
+ghost use Rattle.words_books.specs.Coding.{holdWords, holdOf, heldWords, heldOf, wireWords, wireOf, ledgerRow, ledgerWords, ledgerOf};
 
 // What of the session is no array and neither the task nor the stage, nor what the card has said.
 pub struct Ledger {
@@ -253,6 +253,52 @@ fn wire_from(a: u64, b: u64, d: u64, e: u64, f: u64, g: u64, h: u64) -> Wire
     }
 }
 
+// The words of a ledger from those of its parts.
+fn ledger_row(
+    v: Ledger,
+    wire: [u64; 7],
+    held: [u64; 16],
+    failure: [u64; 4],
+    closing: [u64; 1],
+) -> [u64; 32]
+    ensures { λ r. ⌜ r ≡ ledgerRow v wire held failure closing ⌝ }
+{
+    [
+        words::long(v.ranges),
+        words::long(v.lends),
+        words::bit(v.started),
+        v.original,
+        wire[0],
+        wire[1],
+        wire[2],
+        wire[3],
+        wire[4],
+        wire[5],
+        wire[6],
+        held[0],
+        held[1],
+        held[2],
+        held[3],
+        held[4],
+        held[5],
+        held[6],
+        held[7],
+        held[8],
+        held[9],
+        held[10],
+        held[11],
+        held[12],
+        held[13],
+        held[14],
+        held[15],
+        failure[0],
+        failure[1],
+        failure[2],
+        failure[3],
+        closing[0],
+    ]
+}
+
 // The ledger: the two counts first.
 pub fn ledger_words(v: Ledger) -> [u64; 32]
     ensures { λ r. ⌜ r ≡ ledgerWords v ⌝ }
@@ -265,40 +311,7 @@ pub fn ledger_words(v: Ledger) -> [u64; 32]
     let failure_w = failure_words(failure);
     let closing = v.closing;
     let closing_w = closing_words(closing);
-    [
-        words::long(v.ranges),
-        words::long(v.lends),
-        words::bit(v.started),
-        v.original,
-        wire_w[0],
-        wire_w[1],
-        wire_w[2],
-        wire_w[3],
-        wire_w[4],
-        wire_w[5],
-        wire_w[6],
-        held_w[0],
-        held_w[1],
-        held_w[2],
-        held_w[3],
-        held_w[4],
-        held_w[5],
-        held_w[6],
-        held_w[7],
-        held_w[8],
-        held_w[9],
-        held_w[10],
-        held_w[11],
-        held_w[12],
-        held_w[13],
-        held_w[14],
-        held_w[15],
-        failure_w[0],
-        failure_w[1],
-        failure_w[2],
-        failure_w[3],
-        closing_w[0],
-    ]
+    ledger_row(v, wire_w, held_w, failure_w, closing_w)
 }
 
 pub fn ledger_from(w: [u64; 32]) -> Ledger

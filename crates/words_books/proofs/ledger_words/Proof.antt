@@ -4,13 +4,11 @@ use Rattle.words_books.proofs.ledger_words.Tie as tie
 
 returns : tie.Need-returns
 returns c = simp (
-  c .before .before .before .before .before .before .before .wire-words .ensures,
-  c .before .before .before .before .before .held-words .ensures,
-  c .before .before .before .before .failure-words .ensures,
-  c .before .before .before .closing-words .ensures,
-  c .before .before .long .ensures,
-  c .before .long2 .ensures,
-  c .bit .ensures,
+  c .before .before .before .before .before .wire-words .ensures,
+  c .before .before .before .held-words .ensures,
+  c .before .before .failure-words .ensures,
+  c .before .closing-words .ensures,
+  c .ledger-row .ensures,
 )
 
 pub ledger-words-spec : {M : Type 1} → statement M
@@ -22,34 +20,4 @@ ledger-words-spec =
     (λ c κs. search needs)
     (λ c κs. search needs)
     (λ c κs. search needs)
-    (λ c κs. search needs)
-    (λ c κs. search needs)
-    (λ c. search needs)
-    (λ c. search needs)
-    (λ c. search needs)
-    (λ c. search needs)
-    (λ c. search needs)
-    (λ c. search needs)
-    (λ c. search needs)
-    (λ c. search needs)
-    (λ c. search needs)
-    (λ c. search needs)
-    (λ c. search needs)
-    (λ c. search needs)
-    (λ c. search needs)
-    (λ c. search needs)
-    (λ c. search needs)
-    (λ c. search needs)
-    (λ c. search needs)
-    (λ c. search needs)
-    (λ c. search needs)
-    (λ c. search needs)
-    (λ c. search needs)
-    (λ c. search needs)
-    (λ c. search needs)
-    (λ c. search needs)
-    (λ c. search needs)
-    (λ c. search needs)
-    (λ c. search needs)
-    (λ c. search needs)
     returns)
