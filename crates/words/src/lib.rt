@@ -1,8 +1,7 @@
 // Words of eight bytes, the byte of the greatest weight first, in a slice of bytes: how a session is kept between two calls.
-use fields::Read32;
 ghost use mathlib.Core.Bool.{false};
 ghost use mathlib.Core.Path.{_≡_};
-ghost use Prim.Native.Nat.{_+_, _*_, _%_, _≤_};
+ghost use Prim.Native.Nat.{_+_, _*_, _%_, _<_, _≤_};
 ghost use lib.ListN.{length};
 ghost use lib.Dec.{eqb};
 ghost use Rattle.fields.specs.Fields.{be};
@@ -20,15 +19,18 @@ pub fn room(s: &[u8], k: usize, n: usize) -> bool
     if k <= m - n { true } else { false }
 }
 
-// Four bytes.
+fn byte(x: u8) -> u64
+    ensures { λ r. ⌜ (r ≡ x) × (r < 256) ⌝ }
+{
+    x as u64
+}
+
+// Four bytes, read one by one and without a test, so that they are one load.
 fn half(s: &[u8], off: usize) -> u64
     requires { ⌜ off + 4 ≤ length (now s) ⌝ }
     ensures { λ r. ⌜ r ≡ be (now (s .entry)) off 4 ⌝ }
 {
-    match fields::be32(s, off) {
-        Read32::Value(v) => v as u64,
-        Read32::Short => 0,
-    }
+    ((byte(s[off]) * 256 + byte(s[off + 1])) * 256 + byte(s[off + 2])) * 256 + byte(s[off + 3])
 }
 
 // Word k. Two halves are two loads, where eight bytes in one sum are eight.
