@@ -1,0 +1,79 @@
+-- Each number is one of its type, and each array has its length.
+use Prim.Native.Nat.{ℕ, _^_, _<_}
+use mathlib.Core.Path.{_≡_}
+use lib.ListN.{length}
+use Rattle.words.specs.Words.{Below}
+use Rattle.words_task.specs.Fits.{CatasFits}
+use Rattle.pci.specs.declared.Refusal.{Refusal}
+use Rattle.pci.specs.declared.Refusal.the-variants as rv
+use Rattle.session.specs.declared.Failure.{Failure}
+use Rattle.session.specs.declared.Failure.the-variants as fv
+use Rattle.session.specs.declared.Closing.{Closing}
+use Rattle.session.specs.declared.Closing.the-variants as cv
+use Rattle.dma.specs.declared.Buffer.{Buffer}
+use Rattle.session.specs.declared.Hold.{Hold}
+use Rattle.session.specs.declared.Hold.the-variants as hv
+use Rattle.session.specs.declared.Held.{Held}
+use Rattle.session.specs.declared.Wire.{Wire}
+use Rattle.words_books.specs.declared.Ledger.{Ledger}
+
+abbrev pub RefusalFits : Refusal → Type 0
+RefusalFits rv.Attributes = Unit {0}
+RefusalFits rv.Owner = Unit {0}
+RefusalFits rv.Reset = Unit {0}
+RefusalFits rv.Bar = Unit {0}
+RefusalFits rv.Memory = Unit {0}
+RefusalFits (rv.Status x y) = (x < 2 ^ 8) × (y < 2 ^ 64)
+RefusalFits (rv.Timeout x) = x < 2 ^ 64
+RefusalFits rv.Busy = Unit {0}
+RefusalFits (rv.Bus x) = x < 2 ^ 64
+RefusalFits rv.NotPrimary = Unit {0}
+RefusalFits (rv.Revision x) = x < 2 ^ 16
+RefusalFits (rv.MinPage x) = x < 2 ^ 8
+RefusalFits (rv.Ports x) = x < 2 ^ 8
+RefusalFits (rv.Uar x) = x < 2 ^ 8
+RefusalFits (rv.UarArea x) = x < 2 ^ 64
+RefusalFits (rv.Entry x) = x < 2 ^ 64
+RefusalFits (rv.Total x) = x < 2 ^ 64
+RefusalFits rv.Address = Unit {0}
+RefusalFits rv.Full = Unit {0}
+RefusalFits rv.Wrong = Unit {0}
+RefusalFits rv.Short = Unit {0}
+RefusalFits rv.Opcode = Unit {0}
+RefusalFits rv.Undo = Unit {0}
+
+abbrev pub FailureFits : Failure → Type 0
+FailureFits fv.Nothing = Unit {0}
+FailureFits (fv.By x) = RefusalFits x
+
+abbrev pub ClosingFits : Closing → Type 0
+ClosingFits cv.Clean = Unit {0}
+ClosingFits cv.Reset = Unit {0}
+ClosingFits cv.Kept = Unit {0}
+
+pub record BufferFits (v : Buffer) : Type 0 where
+  pub handle : v .handle < 2 ^ 64
+  pub dev : v .dev < 2 ^ 64
+  pub pages : v .pages < 2 ^ 64
+
+abbrev pub HoldFits : Hold → Type 0
+HoldFits hv.Absent = Unit {0}
+HoldFits (hv.Held x) = BufferFits x
+
+pub record HeldFits (v : Held) : Type 0 where
+  pub inbox : HoldFits (v .inbox)
+  pub outbox : HoldFits (v .outbox)
+  pub fa : HoldFits (v .fa)
+  pub aux : HoldFits (v .aux)
+
+pub record WireFits (v : Wire) : Type 0 where
+  pub catas : CatasFits (v .catas)
+
+pub record LedgerFits (v : Ledger) : Type 0 where
+  pub ranges : v .ranges < 2 ^ 64
+  pub lends : v .lends < 2 ^ 64
+  pub original : v .original < 2 ^ 64
+  pub wire : WireFits (v .wire)
+  pub held : HeldFits (v .held)
+  pub failure : FailureFits (v .failure)
+  pub closing : ClosingFits (v .closing)

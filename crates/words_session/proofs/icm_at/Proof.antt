@@ -1,0 +1,14 @@
+use mathlib.Core.Path.{refl, ap, _∙_}
+use native.Mathlib.Omega.{arith}
+use borrow.Author.Needs.{needs}
+use Rattle.words_session.specs.Image.{icmOf}
+use Rattle.words_session.proofs.Laws.{loaded}
+use lib.ListN.{replicate}
+use Rattle.words_session.proofs.icm_at.Statement.{statement}
+use Rattle.words_session.proofs.icm_at.Tie as tie
+
+returns : tie.Need-returns
+returns c = let p = c .before .before .before .before .args in let h = c .before .before .before .before .pre in ap icmOf (loaded (p .s .now) (p .k) 4 (replicate 4 0) (c .before .load .ensures) refl (omega arith))
+
+pub icm-at-spec : {M : Type 1} → statement M
+icm-at-spec = tie.close (tie.spec (λ c. search needs) (λ c κs. search needs) (λ c. search needs) (λ c. search needs) (λ c. search needs) (λ c. search needs) returns)

@@ -1,0 +1,155 @@
+-- How far a session has come, as eight words.
+use Prim.Native.Nat.{ℕ, _%_}
+use mathlib.Core.List.{List, [], _∷_}
+use lib.Dec.{eqb}
+use Rattle.fields.specs.Outcome.{pick}
+use Rattle.words.specs.Words.{at}
+use Rattle.words_task.specs.Coding.{faultWords, faultOf}
+use Rattle.dma.specs.declared.Virt.{Virt}
+use Rattle.dma.specs.declared.Virt.the-variants as vv
+use Rattle.dma.specs.declared.Cutter.{Cutter}
+use Rattle.session.specs.declared.Area.{Area}
+use Rattle.session.specs.declared.Area.the-variants as av
+use Rattle.session.specs.declared.Prepare.{Prepare}
+use Rattle.session.specs.declared.Prepare.the-variants as pv
+use Rattle.session.specs.declared.Boot.{Boot}
+use Rattle.session.specs.declared.Boot.the-variants as bv
+use Rattle.session.specs.declared.Close.{Close}
+use Rattle.session.specs.declared.Close.the-variants as cv
+use Rattle.session.specs.declared.Stage.{Stage}
+use Rattle.session.specs.declared.Stage.the-variants as sv
+
+-- a card address, or none
+abbrev pub virtWords : Virt → List ℕ
+virtWords (vv.At x) = 0 ∷ x ∷ []
+virtWords vv.Absent = 1 ∷ 0 ∷ []
+
+abbrev pub virtOf : (tag a : ℕ) → Virt
+virtOf tag a =
+    pick (eqb tag 1) vv.Absent (
+    vv.At a)
+
+-- a range that is still to be cut
+abbrev pub cutterWords : Cutter → List ℕ
+cutterWords v = at (virtWords (v .virt)) 0 ∷ at (virtWords (v .virt)) 1 ∷ v .phys ∷ v .left ∷ []
+
+abbrev pub cutterOf : (a b d e : ℕ) → Cutter
+cutterOf a b d e = record {
+  virt = virtOf a b;
+  phys = d;
+  left = e;
+}
+
+-- what a buffer is for
+abbrev pub areaWords : Area → List ℕ
+areaWords av.Fa = 0 ∷ 0 ∷ []
+areaWords av.Aux = 1 ∷ 0 ∷ []
+areaWords (av.Range x) = 2 ∷ x ∷ []
+
+abbrev pub areaOf : (tag a : ℕ) → Area
+areaOf tag a =
+    pick (eqb tag 1) av.Aux (
+    pick (eqb tag 2) (av.Range a) (
+    av.Fa))
+
+-- what a task is for, before the first command
+abbrev pub prepareWords : Prepare → List ℕ
+prepareWords pv.Attributes = 0 ∷ 0 ∷ []
+prepareWords pv.Claim = 1 ∷ 0 ∷ []
+prepareWords pv.Reset = 2 ∷ 0 ∷ []
+prepareWords pv.Bar = 3 ∷ 0 ∷ []
+prepareWords pv.Inbox = 4 ∷ 0 ∷ []
+prepareWords pv.Outbox = 5 ∷ 0 ∷ []
+prepareWords (pv.GiveInbox x) = 6 ∷ at (faultWords x) 0 ∷ []
+prepareWords pv.Look = 7 ∷ 0 ∷ []
+
+abbrev pub prepareOf : (tag a : ℕ) → Prepare
+prepareOf tag a =
+    pick (eqb tag 1) pv.Claim (
+    pick (eqb tag 2) pv.Reset (
+    pick (eqb tag 3) pv.Bar (
+    pick (eqb tag 4) pv.Inbox (
+    pick (eqb tag 5) pv.Outbox (
+    pick (eqb tag 6) (pv.GiveInbox (faultOf a)) (
+    pick (eqb tag 7) pv.Look (
+    pv.Attributes)))))))
+
+-- what a task is for, in bring-up
+abbrev pub bootWords : Boot → List ℕ
+bootWords bv.QueryFw = 0 ∷ 0 ∷ 0 ∷ 0 ∷ 0 ∷ 0 ∷ 0 ∷ []
+bootWords (bv.Make x) = 1 ∷ at (areaWords x) 0 ∷ at (areaWords x) 1 ∷ 0 ∷ 0 ∷ 0 ∷ 0 ∷ []
+bootWords (bv.Map x y) = 2 ∷ at (areaWords x) 0 ∷ at (areaWords x) 1 ∷ at (cutterWords y) 0 ∷ at (cutterWords y) 1 ∷ at (cutterWords y) 2 ∷ at (cutterWords y) 3 ∷ []
+bootWords bv.RunFw = 3 ∷ 0 ∷ 0 ∷ 0 ∷ 0 ∷ 0 ∷ 0 ∷ []
+bootWords bv.ModStat = 4 ∷ 0 ∷ 0 ∷ 0 ∷ 0 ∷ 0 ∷ 0 ∷ []
+bootWords bv.DevCap = 5 ∷ 0 ∷ 0 ∷ 0 ∷ 0 ∷ 0 ∷ 0 ∷ []
+bootWords (bv.Port x) = 6 ∷ x ∷ 0 ∷ 0 ∷ 0 ∷ 0 ∷ 0 ∷ []
+bootWords bv.IcmSize = 7 ∷ 0 ∷ 0 ∷ 0 ∷ 0 ∷ 0 ∷ 0 ∷ []
+bootWords bv.InitHca = 8 ∷ 0 ∷ 0 ∷ 0 ∷ 0 ∷ 0 ∷ 0 ∷ []
+bootWords bv.Func = 9 ∷ 0 ∷ 0 ∷ 0 ∷ 0 ∷ 0 ∷ 0 ∷ []
+bootWords bv.Adapter = 10 ∷ 0 ∷ 0 ∷ 0 ∷ 0 ∷ 0 ∷ 0 ∷ []
+
+abbrev pub bootOf : (tag a b d e f g : ℕ) → Boot
+bootOf tag a b d e f g =
+    pick (eqb tag 1) (bv.Make (areaOf a b)) (
+    pick (eqb tag 2) (bv.Map (areaOf a b) (cutterOf d e f g)) (
+    pick (eqb tag 3) bv.RunFw (
+    pick (eqb tag 4) bv.ModStat (
+    pick (eqb tag 5) bv.DevCap (
+    pick (eqb tag 6) (bv.Port (a % 256)) (
+    pick (eqb tag 7) bv.IcmSize (
+    pick (eqb tag 8) bv.InitHca (
+    pick (eqb tag 9) bv.Func (
+    pick (eqb tag 10) bv.Adapter (
+    bv.QueryFw))))))))))
+
+-- what a task is for, in a closing
+abbrev pub closeWords : Close → List ℕ
+closeWords (cv.Undo x) = 0 ∷ x ∷ []
+closeWords cv.CloseHca = 1 ∷ 0 ∷ []
+closeWords (cv.Unmap x) = 2 ∷ x ∷ []
+closeWords cv.UnmapAux = 3 ∷ 0 ∷ []
+closeWords cv.UnmapFa = 4 ∷ 0 ∷ []
+closeWords cv.Reset = 5 ∷ 0 ∷ []
+closeWords (cv.FreeLent x) = 6 ∷ x ∷ []
+closeWords (cv.FreeIcm x) = 7 ∷ x ∷ []
+closeWords cv.FreeAux = 8 ∷ 0 ∷ []
+closeWords cv.FreeFa = 9 ∷ 0 ∷ []
+closeWords cv.FreeInbox = 10 ∷ 0 ∷ []
+closeWords cv.FreeOutbox = 11 ∷ 0 ∷ []
+closeWords cv.Release = 12 ∷ 0 ∷ []
+closeWords cv.Restore = 13 ∷ 0 ∷ []
+
+abbrev pub closeOf : (tag a : ℕ) → Close
+closeOf tag a =
+    pick (eqb tag 1) cv.CloseHca (
+    pick (eqb tag 2) (cv.Unmap a) (
+    pick (eqb tag 3) cv.UnmapAux (
+    pick (eqb tag 4) cv.UnmapFa (
+    pick (eqb tag 5) cv.Reset (
+    pick (eqb tag 6) (cv.FreeLent a) (
+    pick (eqb tag 7) (cv.FreeIcm a) (
+    pick (eqb tag 8) cv.FreeAux (
+    pick (eqb tag 9) cv.FreeFa (
+    pick (eqb tag 10) cv.FreeInbox (
+    pick (eqb tag 11) cv.FreeOutbox (
+    pick (eqb tag 12) cv.Release (
+    pick (eqb tag 13) cv.Restore (
+    cv.Undo (a % 4294967296))))))))))))))
+
+-- how far the session has come
+abbrev pub stageWords : Stage → List ℕ
+stageWords sv.Fresh = 0 ∷ 0 ∷ 0 ∷ 0 ∷ 0 ∷ 0 ∷ 0 ∷ 0 ∷ []
+stageWords sv.Open = 1 ∷ 0 ∷ 0 ∷ 0 ∷ 0 ∷ 0 ∷ 0 ∷ 0 ∷ []
+stageWords sv.Ended = 2 ∷ 0 ∷ 0 ∷ 0 ∷ 0 ∷ 0 ∷ 0 ∷ 0 ∷ []
+stageWords (sv.Prepare x) = 3 ∷ at (prepareWords x) 0 ∷ at (prepareWords x) 1 ∷ 0 ∷ 0 ∷ 0 ∷ 0 ∷ 0 ∷ []
+stageWords (sv.Boot x) = 4 ∷ at (bootWords x) 0 ∷ at (bootWords x) 1 ∷ at (bootWords x) 2 ∷ at (bootWords x) 3 ∷ at (bootWords x) 4 ∷ at (bootWords x) 5 ∷ at (bootWords x) 6 ∷ []
+stageWords (sv.Close x) = 5 ∷ at (closeWords x) 0 ∷ at (closeWords x) 1 ∷ 0 ∷ 0 ∷ 0 ∷ 0 ∷ 0 ∷ []
+
+abbrev pub stageOf : List ℕ → Stage
+stageOf w =
+    pick (eqb (at w 0) 1) sv.Open (
+    pick (eqb (at w 0) 2) sv.Ended (
+    pick (eqb (at w 0) 3) (sv.Prepare (prepareOf (at w 1) (at w 2))) (
+    pick (eqb (at w 0) 4) (sv.Boot (bootOf (at w 1) (at w 2) (at w 3) (at w 4) (at w 5) (at w 6) (at w 7))) (
+    pick (eqb (at w 0) 5) (sv.Close (closeOf (at w 1) (at w 2))) (
+    sv.Fresh)))))

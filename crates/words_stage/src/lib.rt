@@ -1,0 +1,228 @@
+// How far a session has come, as eight words: its number, then what it carries; words that it does not need are 0.
+use dma::Cutter;
+use dma::Virt;
+use session::Area;
+use session::Boot;
+use session::Close;
+use session::Prepare;
+use session::Stage;
+ghost use mathlib.Core.Path.{_≡_};
+ghost use Rattle.words_stage.specs.Coding.{virtWords, virtOf, cutterWords, cutterOf, areaWords, areaOf, prepareWords, prepareOf};
+ghost use Rattle.words_stage.specs.Coding.{bootWords, bootOf, closeWords, closeOf, stageWords, stageOf};
+
+// A card address, or none.
+fn virt_words(v: Virt) -> [u64; 2]
+    ensures { λ r. ⌜ r ≡ virtWords v ⌝ }
+{
+    match v {
+        Virt::At(x) => [0, x],
+        Virt::Absent => [1, 0],
+    }
+}
+
+fn virt_from(tag: u64, a: u64) -> Virt
+    ensures { λ r. ⌜ r ≡ virtOf tag a ⌝ }
+{
+    match tag {
+        1 => Virt::Absent,
+        _ => Virt::At(a),
+    }
+}
+
+// A range that is still to be cut.
+fn cutter_words(v: Cutter) -> [u64; 4]
+    ensures { λ r. ⌜ r ≡ cutterWords v ⌝ }
+{
+    let virt = v.virt;
+    let virt_w = virt_words(virt);
+    [virt_w[0], virt_w[1], v.phys, v.left]
+}
+
+fn cutter_from(a: u64, b: u64, d: u64, e: u64) -> Cutter
+    ensures { λ r. ⌜ r ≡ cutterOf a b d e ⌝ }
+{
+    Cutter {
+        virt: virt_from(a, b),
+        phys: d,
+        left: e,
+    }
+}
+
+// What a buffer is for.
+fn area_words(v: Area) -> [u64; 2]
+    ensures { λ r. ⌜ r ≡ areaWords v ⌝ }
+{
+    match v {
+        Area::Fa => [0, 0],
+        Area::Aux => [1, 0],
+        Area::Range(x) => [2, words::long(x)],
+    }
+}
+
+fn area_from(tag: u64, a: u64) -> Area
+    ensures { λ r. ⌜ r ≡ areaOf tag a ⌝ }
+{
+    match tag {
+        1 => Area::Aux,
+        2 => Area::Range(words::size(a)),
+        _ => Area::Fa,
+    }
+}
+
+// What a task is for, before the first command.
+fn prepare_words(v: Prepare) -> [u64; 2]
+    ensures { λ r. ⌜ r ≡ prepareWords v ⌝ }
+{
+    match v {
+        Prepare::Attributes => [0, 0],
+        Prepare::Claim => [1, 0],
+        Prepare::Reset => [2, 0],
+        Prepare::Bar => [3, 0],
+        Prepare::Inbox => [4, 0],
+        Prepare::Outbox => [5, 0],
+        Prepare::GiveInbox(x) => {
+            let w = words_task::fault_words(x);
+            [6, w[0]]
+        }
+        Prepare::Look => [7, 0],
+    }
+}
+
+fn prepare_from(tag: u64, a: u64) -> Prepare
+    ensures { λ r. ⌜ r ≡ prepareOf tag a ⌝ }
+{
+    match tag {
+        1 => Prepare::Claim,
+        2 => Prepare::Reset,
+        3 => Prepare::Bar,
+        4 => Prepare::Inbox,
+        5 => Prepare::Outbox,
+        6 => Prepare::GiveInbox(words_task::fault_from(a)),
+        7 => Prepare::Look,
+        _ => Prepare::Attributes,
+    }
+}
+
+// What a task is for, in bring-up.
+fn boot_words(v: Boot) -> [u64; 7]
+    ensures { λ r. ⌜ r ≡ bootWords v ⌝ }
+{
+    match v {
+        Boot::QueryFw => [0, 0, 0, 0, 0, 0, 0],
+        Boot::Make(x) => {
+            let w = area_words(x);
+            [1, w[0], w[1], 0, 0, 0, 0]
+        }
+        Boot::Map(x, y) => {
+            let xw = area_words(x);
+            let yw = cutter_words(y);
+            [2, xw[0], xw[1], yw[0], yw[1], yw[2], yw[3]]
+        }
+        Boot::RunFw => [3, 0, 0, 0, 0, 0, 0],
+        Boot::ModStat => [4, 0, 0, 0, 0, 0, 0],
+        Boot::DevCap => [5, 0, 0, 0, 0, 0, 0],
+        Boot::Port(x) => [6, words::wide8(x), 0, 0, 0, 0, 0],
+        Boot::IcmSize => [7, 0, 0, 0, 0, 0, 0],
+        Boot::InitHca => [8, 0, 0, 0, 0, 0, 0],
+        Boot::Func => [9, 0, 0, 0, 0, 0, 0],
+        Boot::Adapter => [10, 0, 0, 0, 0, 0, 0],
+    }
+}
+
+fn boot_from(tag: u64, a: u64, b: u64, d: u64, e: u64, f: u64, g: u64) -> Boot
+    ensures { λ r. ⌜ r ≡ bootOf tag a b d e f g ⌝ }
+{
+    match tag {
+        1 => Boot::Make(area_from(a, b)),
+        2 => Boot::Map(area_from(a, b), cutter_from(d, e, f, g)),
+        3 => Boot::RunFw,
+        4 => Boot::ModStat,
+        5 => Boot::DevCap,
+        6 => Boot::Port(words::narrow8(a)),
+        7 => Boot::IcmSize,
+        8 => Boot::InitHca,
+        9 => Boot::Func,
+        10 => Boot::Adapter,
+        _ => Boot::QueryFw,
+    }
+}
+
+// What a task is for, in a closing.
+fn close_words(v: Close) -> [u64; 2]
+    ensures { λ r. ⌜ r ≡ closeWords v ⌝ }
+{
+    match v {
+        Close::Undo(x) => [0, words::wide32(x)],
+        Close::CloseHca => [1, 0],
+        Close::Unmap(x) => [2, words::long(x)],
+        Close::UnmapAux => [3, 0],
+        Close::UnmapFa => [4, 0],
+        Close::Reset => [5, 0],
+        Close::FreeLent(x) => [6, words::long(x)],
+        Close::FreeIcm(x) => [7, words::long(x)],
+        Close::FreeAux => [8, 0],
+        Close::FreeFa => [9, 0],
+        Close::FreeInbox => [10, 0],
+        Close::FreeOutbox => [11, 0],
+        Close::Release => [12, 0],
+        Close::Restore => [13, 0],
+    }
+}
+
+fn close_from(tag: u64, a: u64) -> Close
+    ensures { λ r. ⌜ r ≡ closeOf tag a ⌝ }
+{
+    match tag {
+        1 => Close::CloseHca,
+        2 => Close::Unmap(words::size(a)),
+        3 => Close::UnmapAux,
+        4 => Close::UnmapFa,
+        5 => Close::Reset,
+        6 => Close::FreeLent(words::size(a)),
+        7 => Close::FreeIcm(words::size(a)),
+        8 => Close::FreeAux,
+        9 => Close::FreeFa,
+        10 => Close::FreeInbox,
+        11 => Close::FreeOutbox,
+        12 => Close::Release,
+        13 => Close::Restore,
+        _ => Close::Undo(words::narrow32(a)),
+    }
+}
+
+// How far the session has come.
+pub fn stage_words(v: Stage) -> [u64; 8]
+    ensures { λ r. ⌜ r ≡ stageWords v ⌝ }
+{
+    match v {
+        Stage::Fresh => [0, 0, 0, 0, 0, 0, 0, 0],
+        Stage::Open => [1, 0, 0, 0, 0, 0, 0, 0],
+        Stage::Ended => [2, 0, 0, 0, 0, 0, 0, 0],
+        Stage::Prepare(x) => {
+            let w = prepare_words(x);
+            [3, w[0], w[1], 0, 0, 0, 0, 0]
+        }
+        Stage::Boot(x) => {
+            let w = boot_words(x);
+            [4, w[0], w[1], w[2], w[3], w[4], w[5], w[6]]
+        }
+        Stage::Close(x) => {
+            let w = close_words(x);
+            [5, w[0], w[1], 0, 0, 0, 0, 0]
+        }
+    }
+}
+
+pub fn stage_from(w: [u64; 8]) -> Stage
+    ensures { λ r. ⌜ r ≡ stageOf w ⌝ }
+{
+    let tag = w[0];
+    match tag {
+        1 => Stage::Open,
+        2 => Stage::Ended,
+        3 => Stage::Prepare(prepare_from(w[1], w[2])),
+        4 => Stage::Boot(boot_from(w[1], w[2], w[3], w[4], w[5], w[6], w[7])),
+        5 => Stage::Close(close_from(w[1], w[2])),
+        _ => Stage::Fresh,
+    }
+}

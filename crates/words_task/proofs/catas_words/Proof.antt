@@ -1,0 +1,22 @@
+use borrow.Author.Needs.{needs}
+use Rattle.words_task.proofs.catas_words.Statement.{statement}
+use Rattle.words_task.proofs.catas_words.Tie as tie
+
+returns : tie.Need-returns
+returns c = simp (
+  c .before .before .v .given .1,
+  c .wide8 .ensures,
+)
+
+returns-2 : tie.Need-returns-2
+returns-2 c = simp (c .enum-told .given .1)
+
+pub catas-words-spec : {M : Type 1} → statement M
+catas-words-spec =
+    tie.close
+    (tie.spec
+    (λ c. search needs)
+    (λ c κs. search needs)
+    (λ c. search needs)
+    returns
+    returns-2)
