@@ -362,7 +362,8 @@ fn is_lent(inbox: &[u8], outbox: &[u8], top: Top) -> bool
     true
 }
 
-fn answerable(s: Session, a: Answer) -> bool
+// The answer is one to the open question; else it is refused with 20.
+pub fn answerable(s: Session, a: Answer) -> bool
     ensures { λ r. ⌜ r ≡ f.answerable s a ⌝ }
 {
     if is_session(s) {
@@ -420,7 +421,8 @@ fn is_open(stage: Stage) -> bool
     }
 }
 
-fn openable(s: Session) -> bool
+// The session was never opened; else `open` is refused with 20.
+pub fn openable(s: Session) -> bool
     ensures { λ r. ⌜ r ≡ f.openable s ⌝ }
 {
     let stage = s.stage;
@@ -430,7 +432,8 @@ fn openable(s: Session) -> bool
     false
 }
 
-fn closable(s: Session) -> bool
+// The session is open; else `close` is refused with 20.
+pub fn closable(s: Session) -> bool
     ensures { λ r. ⌜ r ≡ f.closable s ⌝ }
 {
     let stage = s.stage;

@@ -3,6 +3,7 @@ use Prim.Native.Nat.{ℕ}
 use mathlib.Core.List.{List, [], _∷_}
 use lib.Dec.{eqb, ltb}
 use Rattle.fields.specs.Outcome.{Outcome, value, refused, pick}
+use Rattle.words.specs.Words.{at, within, putWords}
 use Rattle.pci.specs.declared.Question.{Question}
 use Rattle.pci.specs.declared.Question.the-variants as q
 use Rattle.pci.specs.declared.Answer.{Answer}
@@ -28,6 +29,13 @@ questionWords (q.Map k n) = 11 ∷ k ∷ n ∷ 0 ∷ []
 questionWords (q.Unmap k) = 12 ∷ k ∷ 0 ∷ 0 ∷ []
 questionWords (q.Free k n) = 13 ∷ k ∷ n ∷ 0 ∷ []
 questionWords q.Fence = 14 ∷ 0 ∷ 0 ∷ 0 ∷ []
+
+-- what a call says: the question in four words, and how many undo records are left; nothing where there is no room for it
+abbrev pub turnWords : Question → ℕ → List ℕ
+turnWords q n = at (questionWords q) 0 ∷ at (questionWords q) 1 ∷ at (questionWords q) 2 ∷ at (questionWords q) 3 ∷ n ∷ []
+
+abbrev pub turnIn : List ℕ → Question → ℕ → List ℕ
+turnIn w q n = pick (within w 0 5) (putWords w 0 (turnWords q n)) w
 
 -- AN ANSWER from its kind and two values. One whose kind has no such number, or whose value is wider than its kind, is of the wrong kind: 20
 abbrev pub wordHeard : ℕ → Outcome Answer

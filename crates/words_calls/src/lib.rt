@@ -1,8 +1,8 @@
-// What crosses C linkage at each step, as numbers: a question as four words, an answer from its kind and two values.
+// What crosses C linkage at each step, as numbers: a question as four words, with the count of undo records behind it; an answer from its kind and two values.
 use pci::Answer;
 use pci::Question;
 ghost use mathlib.Core.Path.{_≡_};
-ghost use Rattle.words_calls.specs.Calls.{questionWords, heardAs, wordHeard, dwordHeard, heardOf};
+ghost use Rattle.words_calls.specs.Calls.{questionWords, turnIn, heardAs, wordHeard, dwordHeard, heardOf};
 
 // An answer as it was told; `Unknown` where its kind has no such number, or its value is too wide for its kind.
 pub enum Heard {
@@ -31,6 +31,15 @@ pub fn question_words(q: Question) -> [u64; 4]
         Question::Free(handle, pages) => [13, handle, pages, 0],
         Question::Fence => [14, 0, 0, 0],
     }
+}
+
+// What a call says: its question, and how many undo records are left; nothing where there is no room for it.
+pub fn put_turn(out: &mut [u8], q: Question, undo: usize)
+    ensures { λ _. ⌜ now (out .exit) ≡ turnIn (now (out .entry)) q undo ⌝ }
+{
+    let w = question_words(q);
+    let all = [w[0], w[1], w[2], w[3], words::long(undo)];
+    words::store(out, 0, &all);
 }
 
 // A value of 16 or of 32 bits; one that is wider is of no kind.

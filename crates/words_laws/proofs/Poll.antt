@@ -20,7 +20,7 @@ use Rattle.words_stage.proofs.Trip.{stage-length}
 use Rattle.words_books.specs.Coding.{ledgerWords, ledgerOf, bufferWords}
 use Rattle.words_info.specs.Coding.{toldWords, toldOf, capWords, capOf, portWords, portOf}
 use Rattle.words_beside.specs.Coding.{resetWords, resetOf, findWords, findOf}
-use Rattle.words_session.specs.Image.{ledgerFor, toldFor, icmWords, icmOf, bufferIn, standWords, infoWords, tailWords, behindWords, sessionWords, putSession, putHot, taskIn, sessionIn, countsFit, workStands, infoStands, stands, decodeOf, hotOf}
+use Rattle.words_session.specs.Image.{ledgerFor, toldFor, icmWords, icmOf, bufferIn, standWords, infoWords, tailWords, behindWords, sessionWords, putSession, putHot, taskIn, sessionIn, countsFit, workStands, infoStands, stands, decodeOf}
 use Rattle.words_session.proofs.Laws.{known}
 use Rattle.work.specs.declared.Task.{Task}
 use Rattle.session.specs.declared.Session.{Session}
@@ -91,16 +91,6 @@ parts-of xs s r e =
       icm = ap (λ (z : Session). z .books .lists .icm) r;
       lent = ap (λ (z : Session). z .books .lists .lent) r;
     }
-
--- The task alone is read as with the whole session.
-pub hot-read : (xs : List ℕ) (s : Session) → decodeOf xs ≡ value s → hotOf xs ≡ value (s .work .task)
-hot-read xs s e =
-    let g = given xs s e in
-    let r : taskIn xs ≡ s .work .task = ap (λ (z : Session). z .work .task) (g .reads) in
-    let p = parts-of xs s (g .reads) (g .stand) in
-    let same : sameWords xs 0 (taskWords (taskIn xs)) ≡ true =
-    ap (λ (t : Task). sameWords xs 0 (taskWords t)) r ∙ words-are xs 0 (taskWords (s .work .task)) (ap (wordsIn xs 0) (task-length (s .work .task)) ∙ p .task) in
-    rw (le-ltb (length xs) 3336 (g .enough), same) (ap value r)
 
 join : (s : List ℕ) (k n m : ℕ) (a b : List ℕ) → wordsIn s k n ≡ a → wordsIn s (k + n) m ≡ b → wordsIn s k (n + m) ≡ a ++ b
 join s k n m a b e d = words-append s k n m ∙ ap (λ (l : List ℕ). l ++ wordsIn s (k + n) m) e ∙ ap (λ (l : List ℕ). a ++ l) d

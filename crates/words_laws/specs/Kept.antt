@@ -1,5 +1,5 @@
 -- What is shown of a session that is kept as words. The theorems are `trip` (what was written is read), `whole` (what was read stands there already, word for
--- word), `hot-read`, `poll-alone` and `polled` (the task alone), `stays` and `hot-stays` (other bytes are left) of proofs/.
+-- word), `poll-alone` and `polled` (the task alone), `stays` and `hot-stays` (other bytes are left) of proofs/.
 use Prim.Native.Nat.{ℕ, _^_, _≤_, _<_}
 use mathlib.Core.Path.{_≡_}
 use mathlib.Core.List.{List, [], _∷_}

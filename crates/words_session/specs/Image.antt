@@ -27,8 +27,6 @@ use Rattle.session.specs.declared.Session.{Session}
 use Rattle.words_session.specs.declared.Kept.{Kept}
 use Rattle.words_session.specs.declared.Kept.the-variants as k
 use Rattle.words_session.specs.declared.Decoded.{Decoded}
-use Rattle.words_session.specs.declared.Hot.{Hot}
-use Rattle.words_session.specs.declared.Hot.the-variants as h
 use Rattle.words_session.specs.declared.Wrote.{Wrote}
 use Rattle.words_session.specs.declared.Wrote.the-variants as w
 
@@ -137,17 +135,11 @@ stands xs s =
 abbrev pub decodeOf : List ℕ → Outcome Session
 decodeOf xs = pick (ltb (length xs) 3336) (refused 21 []) (pick (stands xs (sessionIn xs)) (value (sessionIn xs)) (refused 20 []))
 
-abbrev pub hotOf : List ℕ → Outcome Task
-hotOf xs = pick (ltb (length xs) 3336) (refused 21 []) (pick (sameWords xs 0 (taskWords (taskIn xs))) (value (taskIn xs)) (refused 20 []))
-
 abbrev pub wroteOf : List ℕ → Outcome Unit
 wroteOf xs = pick (ltb (length xs) 3336) (refused 21 []) (value tt)
 
 abbrev pub encodedIn : List ℕ → Session → List ℕ
 encodedIn xs s = pick (ltb (length xs) 3336) xs (putSession xs s)
-
-abbrev pub hotIn : List ℕ → Task → List ℕ
-hotIn xs t = pick (ltb (length xs) 3336) xs (putHot xs t)
 
 -- what each answer stands for
 abbrev pub keptAs : Session → Kept → Outcome Session
@@ -157,11 +149,6 @@ keptAs s k.NoSession = refused 20 []
 
 abbrev pub keptOf : Decoded → Outcome Session
 keptOf d = keptAs (d .session) (d .outcome)
-
-abbrev pub heatOf : Hot → Outcome Task
-heatOf (h.Task t) = value t
-heatOf h.Short = refused 21 []
-heatOf h.NoSession = refused 20 []
 
 abbrev pub doneOf : Wrote → Outcome Unit
 doneOf w.Done = value tt

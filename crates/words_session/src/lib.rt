@@ -27,7 +27,7 @@ ghost use Rattle.words_info.specs.Coding.{toldOf, toldWords, capOf, capWords, p
 ghost use Rattle.words_beside.specs.Coding.{resetOf, resetWords, findOf, findWords};
 ghost use Rattle.words_session.specs.Image.{icmOf, icmWords, bufferIn, ledgerFor, toldFor, workIn, listsIn, booksIn, infoIn, sessionIn};
 ghost use Rattle.words_session.specs.Image.{standWords, infoWords, tailWords, behindWords, sessionWords, putSession};
-ghost use Rattle.words_session.specs.Image.{infoStands, workStands, countsFit, stands, decodeOf, hotOf, wroteOf, encodedIn, hotIn, keptOf, heatOf, doneOf};
+ghost use Rattle.words_session.specs.Image.{infoStands, workStands, countsFit, stands, decodeOf, wroteOf, encodedIn, keptOf, doneOf};
 
 // Whether bytes are a session: there are too few of them, or they are none.
 pub enum Kept {
@@ -40,13 +40,6 @@ pub enum Kept {
 pub struct Decoded {
     pub outcome: Kept,
     pub session: Session,
-}
-
-// The task of a session alone.
-pub enum Hot {
-    Task(Task),
-    Short,
-    NoSession,
 }
 
 // A session was written; or the bytes are too few for it, and nothing was.
@@ -392,7 +385,8 @@ fn ledger_of(v: Session) -> Ledger
     }
 }
 
-fn told_of(v: Info) -> Told
+// What was told, of what the card and the host have said.
+pub fn told_of(v: Info) -> Told
     ensures { λ r. ⌜ r ≡ toldFor v ⌝ }
 {
     let uar = v.uar;
@@ -624,20 +618,6 @@ pub fn decode(state: &[u8]) -> Decoded
     }
 }
 
-// The task alone, which is all that a poll needs.
-pub fn decode_hot(state: &[u8]) -> Hot
-    ensures { λ r. ⌜ heatOf r ≡ hotOf (now (state .entry)) ⌝ }
-{
-    if state.len() < BYTES {
-        return Hot::Short;
-    }
-    let task = task_at(state);
-    if task_stands(state, task) {
-        return Hot::Task(task);
-    }
-    Hot::NoSession
-}
-
 // Writes the session into the first bytes; the others stay.
 pub fn encode(state: &mut [u8], s: Session) -> Wrote
     ensures { λ r. ⌜ doneOf r ≡ wroteOf (now (state .entry)) ⌝ }
@@ -650,17 +630,5 @@ pub fn encode(state: &mut [u8], s: Session) -> Wrote
     let task = work.task;
     put_task(state, task);
     put_behind(state, s);
-    Wrote::Done
-}
-
-// Writes the task alone.
-pub fn encode_hot(state: &mut [u8], task: Task) -> Wrote
-    ensures { λ r. ⌜ doneOf r ≡ wroteOf (now (state .entry)) ⌝ }
-    ensures { λ _. ⌜ now (state .exit) ≡ hotIn (now (state .entry)) task ⌝ }
-{
-    if state.len() < BYTES {
-        return Wrote::Short;
-    }
-    put_task(state, task);
     Wrote::Done
 }

@@ -1,0 +1,91 @@
+-- What has become of a session, and what an opening has found out, as words.
+use Prim.Native.Nat.{ℕ}
+use mathlib.Core.Bool.{Bool, true, false}
+use mathlib.Core.List.{List, [], _∷_}
+use lib.Dec.{ltb}
+use lib.ListN.{length}
+use Rattle.fields.specs.Outcome.{Outcome, value, refused, numberOf, pick}
+use Rattle.words.specs.Words.{at, putWords, flat}
+use Rattle.words_info.specs.Coding.{toldWords, capWords, portWords}
+use Rattle.reply.specs.declared.DevCap.{DevCap}
+use Rattle.reply.specs.declared.FuncInfo.{FuncInfo}
+use Rattle.layout.specs.Counts.{baseSqpn, firstFreeMtt}
+use Rattle.layout.specs.declared.Table.{Table}
+use Rattle.words_session.specs.Image.{toldFor}
+use Rattle.pci.specs.Refusals.{refusal}
+use Rattle.pci.specs.declared.Refusal.{Refusal}
+use Rattle.session.specs.declared.Closing.{Closing}
+use Rattle.session.specs.declared.Closing.the-variants as c
+use Rattle.session.specs.declared.Info.{Info}
+use Rattle.opening.specs.Values.{layoutIn}
+use Rattle.fw.specs.declared.Outcome as fw
+use Rattle.fw.specs.declared.Outcome.the-variants as u
+
+-- WHAT HAS BECOME of a session: 0 not opened yet, 1 a call is running, 2 open, 3 the opening failed, 4 closed; behind it document 01's number and the values
+-- beside it, and how the closing went
+abbrev pub besideOf : {A : Type 0} → Outcome A → List ℕ
+besideOf (value x) = []
+besideOf (refused n vs) = vs
+
+abbrev pub valuesOf : Refusal → List ℕ
+valuesOf why = at (besideOf {A = Unit {0}} (refusal why)) 0 ∷ at (besideOf {A = Unit {0}} (refusal why)) 1 ∷ []
+
+abbrev pub endWord : Closing → ℕ
+endWord c.Clean = 0
+endWord c.Reset = 1
+endWord c.Kept = 2
+
+abbrev pub outcomeWords : fw.Outcome → List ℕ
+outcomeWords u.Fresh = 0 ∷ 0 ∷ 0 ∷ 0 ∷ 0 ∷ []
+outcomeWords u.Running = 1 ∷ 0 ∷ 0 ∷ 0 ∷ 0 ∷ []
+outcomeWords u.Opened = 2 ∷ 0 ∷ 0 ∷ 0 ∷ 0 ∷ []
+outcomeWords (u.Failed why k) = 3 ∷ numberOf {A = Unit {0}} (refusal why) ∷ at (valuesOf why) 0 ∷ at (valuesOf why) 1 ∷ endWord k ∷ []
+outcomeWords (u.Closed k) = 4 ∷ 0 ∷ 0 ∷ 0 ∷ endWord k ∷ []
+
+-- WHAT AN OPENING HAS FOUND OUT: the UAR BAR, what QUERY_FUNC said and the revision from word 0 on; the capabilities, with what QUERY_FUNC replaces, from 8; the
+-- ports from 40 and 57; how many were asked about, the total, the first special QP and the first free MTT from 74; the tables from 78
+abbrev pub merged : DevCap → FuncInfo → DevCap
+merged x f = record {
+  «rsvd_qps» = x .«rsvd_qps»;
+  «rsvd_srqs» = x .«rsvd_srqs»;
+  «rsvd_cqs» = x .«rsvd_cqs»;
+  «rsvd_eqs» = f .«rsvd_eqs»;
+  «max_eqs» = f .«max_eqs»;
+  «rsvd_mtts» = x .«rsvd_mtts»;
+  «rsvd_mpts» = x .«rsvd_mpts»;
+  «rsvd_uars» = f .«rsvd_uars»;
+  «rsvd_pds» = x .«rsvd_pds»;
+  «num_sys_eqs» = x .«num_sys_eqs»;
+  ports = x .ports;
+  «log_max_qp_wqes» = x .«log_max_qp_wqes»;
+  «log_max_cqes» = x .«log_max_cqes»;
+  «log_min_page» = x .«log_min_page»;
+  flags = x .flags;
+  flags2 = x .flags2;
+  bmme = x .bmme;
+  «eth_prot_ctrl» = x .«eth_prot_ctrl»;
+  «eth_backpl_an_rep» = x .«eth_backpl_an_rep»;
+  «uar_bytes» = x .«uar_bytes»;
+  entry = x .entry;
+  «max_icm» = x .«max_icm»;
+}
+
+-- "QUERY_PORT for each port at revision 3"
+abbrev pub portsOf : Info → ℕ
+portsOf n = pick (n .rev3) (n .cap .ports) 0
+
+abbrev pub tableWords : Table → List ℕ
+tableWords t = t .index ∷ t .entry ∷ t .count ∷ t .bytes ∷ t .base ∷ []
+
+unfoldable pub putSaid : List ℕ → Info → List ℕ
+putSaid s n = putWords (putWords s 0 (toldWords (toldFor n))) 8 (capWords (merged (n .cap) (n .func)))
+
+unfoldable pub putPorts : List ℕ → Info → List ℕ
+putPorts s n = putWords (putWords s 40 (portWords (n .port1))) 57 (portWords (n .port2))
+
+unfoldable pub putLayout : List ℕ → Info → List ℕ
+putLayout s n =
+    putWords (putWords s 74 (portsOf n ∷ layoutIn n .total ∷ baseSqpn (n .cap) ∷ firstFreeMtt (n .cap) ∷ [])) 78 (flat tableWords (layoutIn n .rows))
+
+unfoldable pub setupIn : List ℕ → Info → List ℕ
+setupIn s n = pick (ltb (length s) 1064) s (putLayout (putPorts (putSaid s n) n) n)
