@@ -10,9 +10,9 @@
 //! copied and then given back with `FreePool`; a fence copies the mailboxes, to the device before a command is posted, and
 //! from it once the command was seen done.
 //!
-//! The library calls no function of the C library but, as compilers do, `memcpy`, `memmove`, `memset` and `memcmp`; a
-//! program without a C library has to have those four (`compiler_builtins` with its feature `mem`, or the target's own).
-//! Nothing here allocates. docs/BENCHMARK.md says how much stack a call needs.
+//! The library calls `memcpy` and `memset` and no other function from outside; a program without a C library has to have
+//! those (`compiler_builtins` with its feature `mem`, or the target's own). Nothing here allocates. docs/BENCHMARK.md says
+//! how much stack a call needs.
 
 #![no_std]
 

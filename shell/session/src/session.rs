@@ -46,18 +46,15 @@ impl Default for Session {
 impl Session {
     /// A session that was never opened. It is opened once; a new opening takes a new session.
     pub fn new() -> Session {
+        Session::with_mailboxes([0; MAILBOX], [0; MAILBOX])
+    }
+
+    /// The same with mailboxes that hold anything: each is zeroed once its pages are there.
+    pub fn with_mailboxes(inbox: Mailbox, outbox: Mailbox) -> Session {
         let mut state = [0; STATE];
         // The bytes are as many as it takes.
         let _ = ffi::fresh(&mut state);
-        Session {
-            state,
-            inbox: [0; MAILBOX],
-            outbox: [0; MAILBOX],
-            question: Question::Finished,
-            before: false,
-            boxes: [0; 2],
-            allocated: 0,
-        }
+        Session { state, inbox, outbox, question: Question::Finished, before: false, boxes: [0; 2], allocated: 0 }
     }
 
     /// Brings the card up. Gives `Outcome::Open` or `Outcome::Failed`.
