@@ -165,6 +165,11 @@ impl Session {
         Books::of(&Words(&out)).ok_or(Refused::Unknown)
     }
 
+    /// The session's bytes, as they are lent.
+    pub fn state(&self) -> &[u8; STATE] {
+        &self.state
+    }
+
     pub fn inbox(&self) -> &Mailbox {
         &self.inbox
     }

@@ -135,28 +135,29 @@ impl fmt::Display for Difference {
     }
 }
 
-/// All of a run as lines, each with the part that it belongs to.
-fn lines(ran: &Ran) -> Vec<(&'static str, String)> {
-    let mut all = Vec::new();
-    let mut part = |name: &'static str, text: String| all.extend(text.lines().map(|l| (name, l.to_string())));
-    part("opening", ran.opening.folded());
-    part("opened", format!("{:#?}", ran.opened));
-    part("state", format!("{:#?}", ran.state));
-    part("closing", ran.closing.folded());
-    part("closed", format!("{:?}", ran.closed));
-    part("inbox", format!("{:02x?}", ran.inbox));
-    part("outbox", format!("{:02x?}", ran.outbox));
-    part("holdings", format!("{:#?}", ran.holdings));
-    part("misuse", format!("{:?}", ran.misuse));
-    all
+/// The parts of a run as text.
+fn parts(ran: &Ran) -> [(&'static str, String); 9] {
+    [
+        ("opening", ran.opening.folded()),
+        ("opened", format!("{:#?}", ran.opened)),
+        ("state", format!("{:#?}", ran.state)),
+        ("closing", ran.closing.folded()),
+        ("closed", format!("{:?}", ran.closed)),
+        ("inbox", format!("{:02x?}", ran.inbox)),
+        ("outbox", format!("{:02x?}", ran.outbox)),
+        ("holdings", format!("{:#?}", ran.holdings)),
+        ("misuse", format!("{:?}", ran.misuse)),
+    ]
 }
 
+/// The first line that differs, in the first part that does.
 fn first_difference(case: &Case, rust: &Ran, ours: &Ran) -> Difference {
-    let (a, b) = (lines(rust), lines(ours));
+    let both = parts(rust).into_iter().zip(parts(ours));
+    let ((part, a), (_, b)) = both.into_iter().find(|(a, b)| a != b).expect("a difference");
+    let (a, b): (Vec<&str>, Vec<&str>) = (a.lines().collect(), b.lines().collect());
     let at = (0..a.len().max(b.len())).find(|i| a.get(*i) != b.get(*i)).expect("a difference");
-    let line = |all: &[(&'static str, String)]| all.get(at).map_or("nothing".into(), |(_, l)| l.clone());
-    let part = a.get(at).or(b.get(at)).map_or("", |(part, _)| part);
-    Difference { case: case.name.clone(), at: format!("line {} ({part})", at + 1), rust: line(&a), session: line(&b) }
+    let line = |all: &[&str]| all.get(at).map_or("nothing", |l| *l).to_string();
+    Difference { case: case.name.clone(), at: format!("{part}, line {}", at + 1), rust: line(&a), session: line(&b) }
 }
 
 /// Compares two runs of one case. An outbox that the card may have written behind the session's back, once a command's

@@ -3,7 +3,7 @@
 use world::bus::Resource;
 use world::plan::{put_be16, put_be64, Addresses, Behaviour, Fault, Plan, Which, NEVER};
 use world::prng::Prng;
-use world::registers::{QUERY_DEV_CAP, QUERY_FW, RESERVED};
+use world::registers::*;
 use world::results::Undo;
 
 /// A session: the world's plan, the read of the status dword that shows GO whatever the card shows, the undo records that
@@ -19,7 +19,7 @@ pub struct Case {
 
 impl Case {
     pub fn new(name: impl Into<String>, plan: Plan) -> Case {
-        Case { name: name.into(), plan, go_at: None, undo: two_records(), close: true }
+        Case { name: name.into(), plan, go_at: None, undo: three_records(), close: true }
     }
 
     fn named(&self, more: impl std::fmt::Display) -> Case {
@@ -46,8 +46,9 @@ impl Case {
     }
 }
 
-fn two_records() -> Vec<Undo> {
+fn three_records() -> Vec<Undo> {
     vec![
+        Undo { op: QUERY_FW, op_mod: 0, in_mod: 0, in_param: 0 },
         Undo { op: 0x020, op_mod: 1, in_mod: 2, in_param: 3 },
         Undo { op: 0xff5, op_mod: 0xff, in_mod: u32::MAX, in_param: u64::MAX },
     ]
@@ -88,13 +89,13 @@ fn no_size() -> Plan {
 }
 
 /// Device addresses that share no alignment with the card's, and tables of more than 256 pages: several mailboxes for one
-/// range, for the firmware area and for the auxiliary area.
+/// range.
 fn fragmented() -> Plan {
     let mut plan = obedient();
     plan.host.addresses = Addresses::Rising { from: 0x7fff_f000 };
     put_be16(&mut plan.card.replies.fw, 0x00, 301);
     plan.card.replies.aux_pages = 257;
-    put_be16(&mut plan.card.replies.cap, 0x82, 2048);
+    put_be16(&mut plan.card.replies.cap, 0x82, 4096);
     put_be64(&mut plan.card.replies.cap, 0xa0, u64::MAX);
     plan
 }
@@ -152,10 +153,12 @@ pub fn refused_replies() -> Vec<(u32, Case)> {
     all
 }
 
-/// An opcode that an undo record may have.
+/// An opcode that an undo record may have. No query: as an immediate it names no outbox, and this card would write its
+/// reply at device address 0, where a mailbox may be mapped.
 fn opcode(r: &mut Prng) -> u16 {
     let op = r.below(0x1000) as u16;
-    if RESERVED.contains(&op) {
+    let query = [QUERY_FW, QUERY_DEV_CAP, QUERY_PORT, QUERY_FUNC, QUERY_ADAPTER].contains(&op);
+    if query || RESERVED.contains(&op) {
         0x020
     } else {
         op
