@@ -12,7 +12,7 @@ use world::traced::Traced;
 use world::{Holdings, World};
 
 use super::cases::Case;
-use super::glimpse::Glimpse;
+use super::glimpse::{Glimpse, Notes};
 use super::over::Over;
 use super::told;
 
@@ -47,6 +47,8 @@ pub struct Run {
     pub books: Option<session::Books>,
     /// No command was posted whose end was not seen.
     pub seen: bool,
+    /// What the mailboxes held, where the Rust ran and it was noted.
+    pub notes: Option<Notes>,
 }
 
 fn bus(case: &Case) -> Bus {
@@ -64,7 +66,18 @@ fn mailbox(bytes: Option<Vec<u8>>) -> Vec<u8> {
 
 /// The Rust's run; nothing outside the domain of document 01.
 pub fn rust(case: &Case) -> Option<Run> {
-    let shared = Rc::new(RefCell::new(bus(case)));
+    rust_over(bus(case), case)
+}
+
+/// The same, with what the mailboxes held.
+pub fn rust_noted(case: &Case) -> Option<Run> {
+    let mut noted = bus(case);
+    noted.bus.notes = Some(Notes::default());
+    rust_over(noted, case)
+}
+
+fn rust_over(bus: Bus, case: &Case) -> Option<Run> {
+    let shared = Rc::new(RefCell::new(bus));
     let mut driver = Driver::new(shared.clone());
     let opened = match run::open(&mut driver) {
         Ok(opened) => Ok(Box::new(opened)),
@@ -85,7 +98,14 @@ pub fn rust(case: &Case) -> Option<Run> {
     }
     let (holdings, misuse) = (world(&bus).holdings(), world(&bus).misuse().to_vec());
     let ran = Ran { opening, opened, state, closing, closed: closed.flatten(), inbox, outbox, holdings, misuse };
-    Some(Run { ran, calls: [first, world(&bus).calls()], reads: bus.bus.reads, books: None, seen: true })
+    Some(Run {
+        ran,
+        calls: [first, world(&bus).calls()],
+        reads: bus.bus.reads,
+        books: None,
+        seen: true,
+        notes: bus.bus.notes.take(),
+    })
 }
 
 /// The session's run.
@@ -115,7 +135,7 @@ pub fn ours(case: &Case) -> Run {
     let (inbox, outbox) = (session.inbox().to_vec(), session.outbox().to_vec());
     let ran = Ran { opening, opened, state, closing, closed, inbox, outbox, holdings, misuse };
     let books = Some(session.books().expect("a session"));
-    Run { ran, calls: [first, world(&bus).calls()], reads: bus.bus.reads, books, seen: unseen == 0 }
+    Run { ran, calls: [first, world(&bus).calls()], reads: bus.bus.reads, books, seen: unseen == 0, notes: None }
 }
 
 /// Where the two differ.

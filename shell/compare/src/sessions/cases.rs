@@ -54,9 +54,13 @@ fn three_records() -> Vec<Undo> {
     ]
 }
 
-/// A card with few pages, so that a session takes little time.
-fn obedient() -> Plan {
-    Plan::obedient()
+/// A card that does as it is told, and says something in every reply.
+pub fn obedient() -> Plan {
+    let mut plan = Plan::obedient();
+    plan.card.replies.ports = [(1..65).collect(), (128..192).collect()];
+    plan.card.replies.func = (0..64).collect();
+    plan.card.replies.adapter = (0..=255).collect();
+    plan
 }
 
 fn revision_2() -> Plan {
@@ -76,7 +80,6 @@ fn two_ports() -> Plan {
 fn system_eqs() -> Plan {
     let mut plan = obedient();
     put_be16(&mut plan.card.replies.cap, 0x26, 0x20);
-    plan.card.replies.func = (0..64).collect();
     plan
 }
 
