@@ -34,35 +34,44 @@ fn operation(call: Attribute) -> AttributeCall {
     }
 }
 
+/// Never inlined, so that a profile can tell the bus from the session.
 impl<B: Bus> session::Bus for Over<'_, B> {
+    #[inline(never)]
     fn config_read16(&mut self, offset: u16) -> Option<u16> {
         self.bus.config_read16(offset.into())
     }
 
+    #[inline(never)]
     fn config_read32(&mut self, offset: u16) -> Option<u32> {
         self.bus.config_read32(offset.into())
     }
 
+    #[inline(never)]
     fn config_write16(&mut self, offset: u16, value: u16) -> bool {
         self.bus.config_write16(offset.into(), value)
     }
 
+    #[inline(never)]
     fn config_write32(&mut self, offset: u16, value: u32) -> bool {
         self.bus.config_write32(offset.into(), value)
     }
 
+    #[inline(never)]
     fn register_read(&mut self, bar: u8, offset: u64) -> Option<u32> {
         self.bus.register_read(bar, offset)
     }
 
+    #[inline(never)]
     fn register_write(&mut self, bar: u8, offset: u64, value: u32) -> bool {
         self.bus.register_write(bar, offset, value)
     }
 
+    #[inline(never)]
     fn attributes(&mut self, call: Attribute, value: u64) -> Option<u64> {
         self.bus.attributes(operation(call), value)
     }
 
+    #[inline(never)]
     fn resource(&mut self, bar: u8, list: &mut [u8]) -> Option<usize> {
         let Resource::List(bytes) = self.bus.resource(bar) else {
             return None;
@@ -73,10 +82,12 @@ impl<B: Bus> session::Bus for Over<'_, B> {
         Some(n)
     }
 
+    #[inline(never)]
     fn stall(&mut self, us: u32) {
         self.bus.stall(us.into());
     }
 
+    #[inline(never)]
     fn allocate(&mut self, pages: u64) -> Option<u64> {
         match self.bus.allocate(pages) {
             Allocation::Failed | Allocation::Null => None,
@@ -84,18 +95,22 @@ impl<B: Bus> session::Bus for Over<'_, B> {
         }
     }
 
+    #[inline(never)]
     fn map(&mut self, handle: u64, bytes: u64) -> Option<Mapping> {
         self.bus.map(Handle(handle), bytes).map(|m| Mapping { address: m.address, bytes: m.bytes })
     }
 
+    #[inline(never)]
     fn unmap(&mut self, handle: u64) -> bool {
         self.bus.unmap(Handle(handle))
     }
 
+    #[inline(never)]
     fn free(&mut self, handle: u64, pages: u64) -> bool {
         self.bus.free(Handle(handle), pages)
     }
 
+    #[inline(never)]
     fn fence(&mut self, fence: Fence<'_>) {
         match fence {
             Fence::ToDevice { inbox, inbox_pages, outbox, outbox_pages } => {
