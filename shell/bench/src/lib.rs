@@ -33,7 +33,7 @@ const MAPS: u64 = 32;
 /// QPC entries of that size; every buffer is mapped so far behind a place that all its pages fit in one block.
 fn tables(entry: u16, behind: u64) -> Plan {
     let mut plan = Plan::obedient();
-    let at = |n: u64| OddMap { address: Some((n + 1 << 40) + behind), bytes: None };
+    let at = |n: u64| OddMap { address: Some(((n + 1) << 40) + behind), bytes: None };
     plan.host.odd_maps = (0..MAPS).map(|n| (n, at(n))).collect();
     put_be16(&mut plan.card.replies.cap, 0x82, entry);
     put_be64(&mut plan.card.replies.cap, 0xa0, u64::MAX);

@@ -164,11 +164,15 @@ fn through(session: &mut Session, bus: &mut World, undo: &mut UndoList, first: Q
     }
 }
 
-/// A call on an idle session that must be refused, and an answer too.
-fn idle(session: &Session, calls: &[(&str, fn(Lent) -> u32)]) {
+/// Calls on an idle session that must be refused, and an answer too.
+fn idle(session: &Session, calls: &[fn(Lent) -> u32]) {
     let copies = Copies::of(session);
-    for (what, call) in calls {
-        refused(&copies, abi::WRONG, what, call);
+    for call in calls {
+        refused(&copies, abi::WRONG, "a call at the wrong time", call);
+        for (what, c) in short(&copies) {
+            let number = if what.ends_with("state") { abi::SHORT } else { abi::WRONG };
+            refused(&c, number, what, call);
+        }
     }
     for kind in 0..10 {
         refused(&copies, abi::WRONG, "answer", |l| ffi::answer(l, told(kind, 1, 1)));
@@ -188,18 +192,18 @@ fn refused_calls_change_nothing_at_any_question() {
         let mut bus = World::new(case.plan.clone());
         let (mut session, mut undo) = (Session::with_mailboxes([0xa5; 4096], [0xa5; 4096]), UndoList::new());
         let mut at = 0;
-        idle(&session, &[("close", ffi::close)]);
+        idle(&session, &[ffi::close]);
         shortened(&session, "open", ffi::open);
         let first = session.begin_open(&mut undo).expect("a fresh session");
         through(&mut session, &mut bus, &mut undo, first, &mut at);
         assert_eq!(session.result(), Ok(Outcome::Open));
-        idle(&session, &[("open", ffi::open)]);
+        idle(&session, &[ffi::open]);
         shortened(&session, "close", ffi::close);
         assert!(undo.push(Undo { op: 0x20, ..Undo::default() }));
         let first = session.begin_close(&mut undo).expect("an open session");
         through(&mut session, &mut bus, &mut undo, first, &mut at);
         assert_eq!(session.result(), Ok(Outcome::Closed(Closing::Clean)));
-        idle(&session, &[("open", ffi::open), ("close", ffi::close)]);
+        idle(&session, &[ffi::open, ffi::close]);
         assert_eq!(session.setup(), Err(Refused::Wrong));
         assert!(at > 700, "{at} questions");
     }
@@ -422,5 +426,42 @@ fn random_bytes_are_no_session() {
         refused(&copies, abi::WRONG, "answer", |l| ffi::answer(l, told(abi::DONE, 0, 0)));
         let mut out = vec![0; abi::BOOKS];
         assert_eq!(ffi::read(Reader::Books, &copies.state, &mut out), abi::WRONG);
+        for (what, c) in short(&copies).into_iter().filter(|(what, _)| !what.ends_with("state")) {
+            refused(&c, abi::WRONG, what, ffi::open);
+        }
+    }
+}
+
+/// Words that are no question, as no call writes them.
+#[test]
+fn words_that_are_no_question() {
+    let of = |words: [u64; 4]| Question::of(&Words(&words.map(u64::to_be_bytes).concat()));
+    assert_eq!(of([14, 0, 0, 0]), Some(Question::Fence));
+    assert_eq!(of([5, 6, 7, 0]), Some(Question::RegisterRead { bar: 6, offset: 7 }));
+    let none = [[15, 0, 0, 0], [u64::MAX; 4], [1, 1 << 16, 0, 0], [3, 0, 1 << 16, 0], [4, 0, 1 << 32, 0]];
+    assert!(none.into_iter().all(|w| of(w).is_none()));
+    let none = [[5, 256, 0, 0], [6, 0, 0, 1 << 32], [7, 3, 0, 0], [8, 256, 0, 0], [9, 1 << 32, 0, 0]];
+    assert!(none.into_iter().all(|w| of(w).is_none()));
+}
+
+/// A list shorter than its descriptor is no answer, though it has the tag; one that is longer than the loop's room is cut.
+#[test]
+fn resource_lists_of_any_length() {
+    let mut whole = vec![0x8a; 14];
+    whole.extend(0xe000_0000u64.to_le_bytes());
+    whole.extend([0; 16]);
+    whole.extend((8u64 << 20).to_le_bytes());
+    whole.resize(400, 0x5a);
+    for length in [0, 1, 13, 14, 22, 38, 45, 46, 47, 64, 65, 400] {
+        let mut case = cases::variants()[7].clone();
+        let list = world::bus::Resource::List(whole[..length].to_vec());
+        case.plan.resources.odd = (0..6).map(|i| (i, list.clone())).collect();
+        let run = ours(&case).ran;
+        let opened = run.opened.expect("a good opening");
+        let expected = (length >= 46).then_some(8 << 20);
+        assert_eq!((opened.uar_bar, opened.uar_size), (2, expected), "{length} bytes");
+        if length >= 46 {
+            assert_eq!(rust(&case).expect("inside the domain").ran.opened.expect("good"), opened);
+        }
     }
 }

@@ -49,13 +49,16 @@ fn a_range_in_several_mailboxes() {
 /// Every call of an opening and of a close, reported failed, and taken all the same or not.
 #[test]
 fn every_bus_call_failed_in_turn() {
+    let mut sessions = 0;
     for case in cases::variants() {
         let calls = rust(&case).expect("inside the domain").calls[1];
         for call in (0..calls).step_by(STRIDE) {
             compared(&case.with_fault(call, false));
             compared(&case.with_fault(call, true));
+            sessions += 2;
         }
     }
+    println!("{sessions} sessions");
 }
 
 /// A list is given back once, right behind the call that gave it, where it is not null.
@@ -73,15 +76,18 @@ fn every_list_goes_back_once() {
 
 #[test]
 fn every_command_with_each_status() {
+    let mut sessions = 0;
     for case in cases::variants() {
         let commands = posts(&rust(&case).expect("inside the domain").ran);
         for command in (0..commands).step_by(STRIDE) {
             for status in STATUSES {
                 compared(&case.with_command(command, Behaviour::status(status)));
                 compared(&case.with_command(command, Behaviour { polls: 3, status }));
+                sessions += 2;
             }
         }
     }
+    println!("{sessions} sessions");
 }
 
 /// A command that never ends: 60,000,000 µs, and the catastrophic buffer where it is known.
@@ -94,6 +100,7 @@ fn every_command_with_a_timeout() {
         let run = compared(&case.with_command(command, ENDLESS));
         ends.push(refused(&run.ran).map(|(number, _)| number));
     }
+    println!("{} sessions", ends.len());
     assert!(ends.contains(&Some(7)), "{ends:?}");
     assert!(STRIDE > 1 || ends.contains(&None), "QUERY_ADAPTER and the closing: {ends:?}");
 }
@@ -104,6 +111,7 @@ fn every_status_read_shows_go_once() {
     for case in cases::variants().iter().take(4) {
         let reads = rust(case).expect("inside the domain").reads;
         let runs: Vec<Run> = (0..reads).step_by(STRIDE).map(|read| compared(&case.with_go(read))).collect();
+        println!("{} sessions", runs.len());
         assert!(runs.iter().any(|r| refused(&r.ran).is_some_and(|(number, _)| number == 8)));
     }
 }

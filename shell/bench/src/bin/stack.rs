@@ -49,7 +49,7 @@ impl Most {
 /// A call on copies of what the session lends.
 fn call(s: &Session, undo: &UndoList, call: &mut dyn FnMut(Lent) -> u32) -> usize {
     let (mut state, mut inbox, mut outbox) = (s.state().to_vec(), s.inbox().to_vec(), s.outbox().to_vec());
-    let mut out = vec![0; abi::TURN];
+    let mut out = [0; abi::TURN];
     let top = undo.records().last().copied().unwrap_or_default();
     let mut f = || {
         let (state, inbox, outbox, out) = (&mut state[..], &mut inbox[..], &mut outbox[..], &mut out[..]);
