@@ -9,6 +9,7 @@ use oracle::run::{self, Driver};
 use session::{Closing, Outcome, Session, UndoList};
 use world::plan::{put_be16, put_be64, Behaviour, OddMap, Plan, Which};
 use world::registers::{MAP_FA, MAP_ICM, MAP_ICM_AUX, QUERY_FW};
+use world::trace::{Event, Trace};
 use world::traced::Traced;
 use world::{World, PAGE};
 
@@ -57,13 +58,13 @@ pub fn cases() -> Vec<Case> {
     ]
 }
 
-/// What an opening has: pages, blocks, commands; and the bus calls of the opening and of the close, stalls included.
+/// What an opening has: pages, blocks, commands; and the questions of the opening and of the close, fences included.
 #[derive(Clone, Copy, PartialEq, Eq, Debug)]
 pub struct Size {
     pub pages: u64,
     pub blocks: u64,
     pub commands: usize,
-    pub calls: [usize; 2],
+    pub questions: [usize; 2],
 }
 
 pub fn size(plan: &Plan) -> Size {
@@ -78,7 +79,14 @@ pub fn size(plan: &Plan) -> Size {
     let closing = shared.borrow_mut().take();
     let lists = opening.posts().filter(|p| [MAP_FA, MAP_ICM, MAP_ICM_AUX].contains(&p.op));
     let blocks = lists.map(|p| u64::from(p.in_mod)).sum();
-    Size { pages, blocks, commands: opening.posts().count(), calls: [&opening, &closing].map(|t| t.events().count()) }
+    let questions = [&opening, &closing].map(questions);
+    Size { pages, blocks, commands: opening.posts().count(), questions }
+}
+
+/// Each command has two fences besides its bus calls.
+fn questions(trace: &Trace) -> usize {
+    let asked = trace.events().filter(|e| !matches!(e, Event::Post(_) | Event::FreePool { .. }));
+    asked.count() + 2 * trace.posts().count()
 }
 
 /// What is measured lies within this function, and nothing else does.

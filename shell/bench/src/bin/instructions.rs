@@ -111,18 +111,18 @@ fn printed(counts: &[Count]) -> String {
 }
 
 const HEAD: &str = "\
-| card | pages | blocks | commands | bus calls | | the Rust | of it memset | the session | of it memset | of it the library |
+| card | pages | blocks | commands | questions | | the Rust | of it memset | the session | of it memset | of it the library |
 |---|---|---|---|---|---|---|---|---|---|---|
 ";
 
 fn row(case: &Case, size: Size, [rust_open, rust_close, open, close]: &[Count; 4]) -> String {
-    let Size { pages, blocks, commands, calls } = size;
+    let Size { pages, blocks, commands, questions } = size;
     let line = |what: &str, head: String, rust: &Count, ours: &Count| {
         let [a, b, c, d, e] = [rust.all, rust.memset, ours.all, ours.memset, ours.library];
         format!("| {head} | {what} | {a} | {b} | {c} | {d} | {e} |\n")
     };
-    let first = format!("{} | {pages} | {blocks} | {commands} | {}", case.name, calls[0]);
-    let second = format!(" | | | | {}", calls[1]);
+    let first = format!("{} | {pages} | {blocks} | {commands} | {}", case.name, questions[0]);
+    let second = format!(" | | | | {}", questions[1]);
     line("opening", first, rust_open, open) + &line("close", second, rust_close, close)
 }
 
