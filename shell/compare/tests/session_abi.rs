@@ -332,6 +332,47 @@ fn a_full_undo_list() {
     assert!(undo.is_empty());
 }
 
+/// The opcodes that a close sends when the list is changed at its first stop behind the command `op`.
+fn closed_with(change: impl Fn(&mut UndoList), op: u16) -> (Vec<u16>, Outcome, usize) {
+    let mut bus = world::traced::Traced::new(World::new(cases::variants()[0].plan.clone()));
+    let (mut session, mut undo) = (Session::new(), UndoList::new());
+    assert_eq!(session.open(&mut Over::new(&mut bus), &mut undo), Ok(Outcome::Open));
+    bus.take();
+    assert!(undo.push(Undo { op: 0x21, ..Undo::default() }) && undo.push(Undo { op: 0x22, ..Undo::default() }));
+    let mut q = session.begin_close(&mut undo).expect("an open session");
+    let mut list = [0; 64];
+    let mut changed = false;
+    while q != Question::Finished {
+        let answer = session.ask(&mut Over::new(&mut bus), &mut list);
+        if !changed && bus.trace.posts().any(|p| p.op == op) {
+            changed = true;
+            change(&mut undo);
+        }
+        q = session.answer(answer, &mut undo).expect("an answer that suits");
+    }
+    let sent = bus.take().posts().map(|p| p.op).take(5).collect();
+    (sent, session.result().expect("a session"), undo.len())
+}
+
+/// The newest record of the list as it is lent at each turn is sent; one that has become reserved counts as failed.
+#[test]
+fn a_list_that_changes_while_it_is_sent() {
+    const NEXT: [u16; 3] = [0x008, 0xff9, 0xff9];
+    let more = |op: u16| move |undo: &mut UndoList| assert!(undo.push(Undo { op, ..Undo::default() }));
+    let (sent, outcome, left) = closed_with(more(0x23), 0x22);
+    assert_eq!(sent[..4], [0x22, 0x23, 0x21, NEXT[0]]);
+    assert_eq!((outcome, left), (Outcome::Closed(Closing::Clean), 0));
+    let (sent, outcome, left) = closed_with(more(0xff6), 0x22);
+    assert_eq!((sent, outcome, left), (vec![0x22], Outcome::Closed(Closing::Reset), 2));
+    let (sent, outcome, left) = closed_with(|undo| undo.truncate(0), 0x22);
+    assert_eq!((sent[..4].to_vec(), left), ([&[0x22], &NEXT[..]].concat(), 0));
+    assert_eq!(outcome, Outcome::Closed(Closing::Clean));
+    // Behind the last record the list is not looked at again.
+    let (sent, outcome, left) = closed_with(more(0x23), 0x008);
+    assert_eq!((sent[..3].to_vec(), left), (vec![0x22, 0x21, 0x008], 1));
+    assert_eq!(outcome, Outcome::Closed(Closing::Clean));
+}
+
 /// The session's bytes at every so-manieth question of an opening and a close.
 fn snapshots() -> Vec<(Copies, Question)> {
     let mut all = Vec::new();

@@ -1,12 +1,14 @@
 //! The functions of include/hca.h over slices of any length. All that is unsafe stands here.
 //!
+//! The library is compiled for the System V calling convention, which on a UEFI target is not that of "C"; so it is named.
+//!
 //! The functions read and write the slices that they are lent, keep no pointer, and end on any bytes, lengths and
 //! numbers; so each of these is safe to call.
 
 use crate::undo::Undo;
 
 mod c {
-    extern "C" {
+    extern "sysv64" {
         pub fn hca_fresh(state: *mut u8, state_bytes: usize) -> u32;
         pub fn hca_open(
             state: *mut u8,
@@ -91,7 +93,7 @@ pub fn fresh(state: &mut [u8]) -> u32 {
     unsafe { c::hca_fresh(state.as_mut_ptr(), state.len()) }
 }
 
-type Call = unsafe extern "C" fn(
+type Call = unsafe extern "sysv64" fn(
     *mut u8,
     usize,
     *mut u8,

@@ -10,6 +10,13 @@
 //! copied and then given back with `FreePool`; a fence copies the mailboxes, to the device before a command is posted, and
 //! from it once the command was seen done.
 //!
+//! # In a UEFI loader
+//!
+//! The library is an archive with one ELF object for x86-64 (System V calling convention, SSE2, no AVX). A linker for PE
+//! has to be given it as COFF (`objcopy -O pe-x86-64`). It is compiled with the red zone: code that interrupts a call on
+//! its own stack, as firmware does, writes over bytes that the call still uses. So long as that is so, a loader makes each
+//! call with interrupts off (`RaiseTPL` to `TPL_HIGH_LEVEL`, `RestoreTPL` behind it); it never has to while it asks the bus.
+//!
 //! The library calls `memcpy` and `memset` and no other function from outside; a program without a C library has to have
 //! those (`compiler_builtins` with its feature `mem`, or the target's own). Nothing here allocates. docs/BENCHMARK.md says
 //! how much stack a call needs.
