@@ -93,7 +93,8 @@ fn rust_over(bus: Bus, case: &Case) -> Option<Run> {
     let [inbox, outbox] = driver.mailboxes().map(mailbox);
     let mut bus = shared.borrow_mut();
     let closing = bus.take();
-    if !world(&bus).outside().is_empty() || closed == Some(None) {
+    let inside = world(&bus).outside().is_empty() && world(&bus).misuse().is_empty();
+    if !inside || closed == Some(None) {
         return None;
     }
     let (holdings, misuse) = (world(&bus).holdings(), world(&bus).misuse().to_vec());
