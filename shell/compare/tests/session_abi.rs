@@ -332,6 +332,24 @@ fn a_full_undo_list() {
     assert!(undo.is_empty());
 }
 
+/// A handle is any number, 0 as well.
+#[test]
+fn handles_are_any_numbers() {
+    let run = |mask: u64| {
+        let mut bus = world::traced::Traced::new(World::new(cases::variants()[0].plan.clone()));
+        let (mut session, mut undo) = (Session::new(), UndoList::new());
+        let mut over = Over::masked(&mut bus, mask);
+        assert_eq!(session.open(&mut over, &mut undo), Ok(Outcome::Open));
+        assert_eq!(session.books().expect("a session").inbox.map(|b| b.handle), Some(1 ^ mask));
+        assert_eq!(session.close(&mut over, &mut undo), Ok(Outcome::Closed(Closing::Clean)));
+        bus.take().full()
+    };
+    let plain = run(0);
+    for mask in [1, 2, 0xff, 1 << 63, u64::MAX] {
+        assert_eq!(run(mask), plain, "{mask:x}");
+    }
+}
+
 /// The opcodes that a close sends when the list is changed at its first stop behind the command `op`.
 fn closed_with(change: impl Fn(&mut UndoList), op: u16) -> (Vec<u16>, Outcome, usize) {
     let mut bus = world::traced::Traced::new(World::new(cases::variants()[0].plan.clone()));

@@ -8,20 +8,30 @@ const BYTES: usize = PAGE as usize;
 
 pub struct Over<'a, B> {
     bus: &'a mut B,
+    /// The session's handles are the bus's with these bits turned.
+    mask: u64,
     /// The commands posted whose end was not seen: fences to the device, without those from it.
     pub unseen: i64,
 }
 
 impl<'a, B: Bus> Over<'a, B> {
     pub fn new(bus: &'a mut B) -> Over<'a, B> {
-        Over { bus, unseen: 0 }
+        Over::masked(bus, 0)
+    }
+
+    pub fn masked(bus: &'a mut B, mask: u64) -> Over<'a, B> {
+        Over { bus, mask, unseen: 0 }
+    }
+
+    fn handle(&self, handle: u64) -> Handle {
+        Handle(handle ^ self.mask)
     }
 
     /// Pages come with anything in them, and are zeroed.
     fn zeroed(&mut self, handle: Handle, pages: u64) -> u64 {
         self.bus.hand_out(handle);
         (0..pages).for_each(|k| self.bus.pages(handle).write(k * PAGE, &[0; BYTES]));
-        handle.0
+        handle.0 ^ self.mask
     }
 }
 
@@ -97,17 +107,20 @@ impl<B: Bus> session::Bus for Over<'_, B> {
 
     #[inline(never)]
     fn map(&mut self, handle: u64, bytes: u64) -> Option<Mapping> {
-        self.bus.map(Handle(handle), bytes).map(|m| Mapping { address: m.address, bytes: m.bytes })
+        let handle = self.handle(handle);
+        self.bus.map(handle, bytes).map(|m| Mapping { address: m.address, bytes: m.bytes })
     }
 
     #[inline(never)]
     fn unmap(&mut self, handle: u64) -> bool {
-        self.bus.unmap(Handle(handle))
+        let handle = self.handle(handle);
+        self.bus.unmap(handle)
     }
 
     #[inline(never)]
     fn free(&mut self, handle: u64, pages: u64) -> bool {
-        self.bus.free(Handle(handle), pages)
+        let handle = self.handle(handle);
+        self.bus.free(handle, pages)
     }
 
     #[inline(never)]
@@ -115,12 +128,12 @@ impl<B: Bus> session::Bus for Over<'_, B> {
         match fence {
             Fence::ToDevice { inbox, inbox_pages, outbox, outbox_pages } => {
                 self.unseen += 1;
-                self.bus.pages(Handle(inbox_pages)).write(0, inbox);
-                self.bus.pages(Handle(outbox_pages)).write(0, outbox);
+                self.bus.pages(self.handle(inbox_pages)).write(0, inbox);
+                self.bus.pages(self.handle(outbox_pages)).write(0, outbox);
             }
             Fence::FromDevice { outbox, outbox_pages } => {
                 self.unseen -= 1;
-                outbox.copy_from_slice(&self.bus.pages(Handle(outbox_pages)).read(0, PAGE));
+                outbox.copy_from_slice(&self.bus.pages(self.handle(outbox_pages)).read(0, PAGE));
             }
         }
         self.bus.fence();

@@ -51,8 +51,9 @@ use crate::machines::records::{fold, of_event, turn, Record, Turn, Turns};
 /// The kind of an outbox.
 const OUTBOX: u64 = 8;
 const REPEATED: u8 = 128;
-/// The longest body that a program is asked to take.
-const BODY: usize = 16384;
+/// The longest body, and the longest text, that a program is asked to take.
+const BODY: usize = 8192;
+const TEXT: usize = 16384;
 
 /// The checksum of bytes.
 pub fn checksum(bytes: &[u8]) -> u64 {
@@ -254,5 +255,6 @@ pub fn record(case: &Case) -> Record {
     let boxes = row("boxes", &[checksum(&run.ran.inbox), checksum(&run.ran.outbox)]);
     let closed = run.ran.closed.map_or(String::new(), |c| row("closed", &[closing(c)]));
     let output = [asked(&opening), ended(&run), boxes, asked(&close), closed].concat();
+    assert!(output.len() <= TEXT, "{}: a text that the program has room for", case.name);
     Record { input: [head, words, answers].concat(), output }
 }
