@@ -332,6 +332,46 @@ fn a_full_undo_list() {
     assert!(undo.is_empty());
 }
 
+/// A byte behind the first ten words that is 0 in every session: the highest of how many ranges there are.
+const RANGES: usize = 21 * 8;
+
+/// What the open question may be while a command is polled.
+fn polls(q: Question) -> bool {
+    matches!(q, Question::RegisterRead { bar: 0, offset: 0x80698 } | Question::Stall { us: 1 | 100 })
+}
+
+/// An answer to a poll changes words 1 and 9 of the session at most, and looks at none behind word 9: damage there is found
+/// by the first answer that is not to a poll.
+#[test]
+fn a_poll_touches_the_first_words_alone() {
+    let mut case = cases::variants()[0].clone();
+    case.plan.card.commands = vec![(world::plan::Which::Number(3), world::plan::Behaviour::after(1_005))];
+    let mut bus = World::new(case.plan);
+    let (mut session, mut undo) = (Session::new(), UndoList::new());
+    let mut q = session.begin_open(&mut undo).expect("a fresh session");
+    let (mut list, mut polled) = ([0; 64], 0);
+    while q != Question::Finished {
+        let before = Copies::of(&session);
+        let answer = session.ask(&mut Over::new(&mut bus), &mut list);
+        let mut damaged = before.clone();
+        damaged.state[RANGES] = 1;
+        let next = session.answer(answer, &mut undo).expect("an answer that suits");
+        if polls(q) && polls(next) && next != q {
+            polled += 1;
+            let changed = |k: &usize| before.state[*k] != session.state()[*k];
+            assert!((0..abi::STATE).filter(changed).all(|k| [1, 9].contains(&(k / 8))), "{q:?}");
+            assert_eq!(damaged.call(|l| ffi::answer(l, answer.told())), 0, "{q:?}");
+            damaged.state[RANGES] = 0;
+            assert_eq!(damaged.state, session.state());
+            assert_eq!(Question::of(&Words(&damaged.out)), Some(next));
+        } else if !polls(q) {
+            refused(&damaged, abi::WRONG, "damage", |l| ffi::answer(l, answer.told()));
+        }
+        q = next;
+    }
+    assert_eq!(polled, 2 * 1_005);
+}
+
 /// A handle is any number, 0 as well.
 #[test]
 fn handles_are_any_numbers() {
