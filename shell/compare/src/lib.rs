@@ -12,6 +12,7 @@ pub mod memory;
 pub mod openings;
 pub mod replies;
 pub mod run;
+pub mod sessions;
 pub mod stored;
 pub mod tables;
 

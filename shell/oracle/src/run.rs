@@ -142,6 +142,22 @@ pub fn close(d: &mut Driver) -> Outcome<Closing> {
     Ok(closing)
 }
 
+/// An opening with nothing but the driver's own call inside `around`; whether it was good.
+pub fn open_within(d: &mut Driver, around: impl FnOnce(&mut dyn FnMut())) -> bool {
+    let (mut result, pci) = (None, &mut d.pci);
+    glue::call(&d.context, || around(&mut || result = Some(fw::open(pci)))).expect("no panic");
+    d.hca = result.and_then(Result::ok).map(|(hca, _)| hca);
+    d.hca.is_some()
+}
+
+/// A close likewise; whether it was clean.
+pub fn close_within(d: &mut Driver, around: impl FnOnce(&mut dyn FnMut())) -> bool {
+    let (mut clean, mut hca, pci) = (false, d.hca.take(), &mut d.pci);
+    let mut close = || clean = hca.take().is_some_and(|hca| fw::close(hca, pci));
+    glue::call(&d.context, || around(&mut close)).expect("no panic");
+    clean
+}
+
 pub fn quiesce(d: &mut Driver) -> Outcome<()> {
     d.with_hca(fw::quiesce)
 }

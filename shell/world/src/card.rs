@@ -277,6 +277,10 @@ impl Card {
         self.held.fa.is_empty() && self.held.aux.is_empty() && self.held.icm.is_empty() && !self.held.open
     }
 
+    pub fn held(&self) -> &Held {
+        &self.held
+    }
+
     pub fn replies(&mut self) -> &mut Replies {
         &mut self.plan.replies
     }

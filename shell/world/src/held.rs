@@ -21,7 +21,8 @@ pub fn blocks(inbox: &[u8], count: u32) -> Vec<Block> {
     inbox.chunks_exact(16).take(count as usize).map(entry).collect()
 }
 
-#[derive(Default)]
+/// The blocks of each area.
+#[derive(Clone, PartialEq, Eq, Debug, Default)]
 pub struct Held {
     pub fa: Vec<Block>,
     pub aux: Vec<Block>,

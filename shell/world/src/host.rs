@@ -119,6 +119,12 @@ impl Host {
         numbers.map(Handle).collect()
     }
 
+    /// The handles that are mapped, in order of allocation.
+    pub fn mapped(&self) -> Vec<Handle> {
+        let numbers = self.buffers.iter().enumerate().filter(|(_, b)| b.mapped).map(|(i, _)| i as u64 + 1);
+        numbers.map(Handle).collect()
+    }
+
     /// The card was reset: no buffer is anything to it.
     pub fn forget_roles(&mut self) {
         for b in &mut self.buffers {

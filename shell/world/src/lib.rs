@@ -23,7 +23,9 @@ pub mod trace;
 pub mod traced;
 mod world;
 
-pub use world::World;
+pub use held::{Block, Held};
+pub use host::Span;
+pub use world::{Holdings, World};
 
 /// A page, and the unit of every device address of the domain.
 pub const PAGE: u64 = 4096;

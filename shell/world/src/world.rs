@@ -3,6 +3,7 @@
 use crate::bus::{Allocation, AttributeCall, Bus, Handle, Mapping, Resource};
 use crate::card::Card;
 use crate::config::Config;
+use crate::held::Held;
 use crate::host::{Host, Role};
 use crate::memory::Pages;
 use crate::plan::{AttributePlan, Fault, Plan, Replies, ResourcePlan};
@@ -12,6 +13,17 @@ use crate::{resources, PAGE};
 /// The shortest resource list that document 01 reads.
 const DESCRIPTOR: usize = 46;
 const LAST_BAR: u8 = 5;
+
+/// What host and card hold, for two worlds to be compared by.
+#[derive(Clone, PartialEq, Eq, Debug)]
+pub struct Holdings {
+    pub in_use: Vec<Handle>,
+    pub mapped: Vec<Handle>,
+    pub card: Held,
+    /// A session's command may still be running.
+    pub pending: bool,
+    pub attributes: u64,
+}
 
 pub struct World {
     host: Host,
@@ -61,6 +73,17 @@ impl World {
     /// The handles not given back.
     pub fn in_use(&self) -> Vec<Handle> {
         self.host.in_use()
+    }
+
+    /// What host and card hold now, and the attributes.
+    pub fn holdings(&self) -> Holdings {
+        Holdings {
+            in_use: self.host.in_use(),
+            mapped: self.host.mapped(),
+            card: self.card.held().clone(),
+            pending: self.card.pending(),
+            attributes: self.attributes.original,
+        }
     }
 
     /// The device address behind a card address, by the MAP_ICM commands.

@@ -20,18 +20,18 @@ const LIST: u64 = 7;
 
 /// A question as a line, and its answer: kind, two values, and the bytes of a list.
 #[derive(Clone, PartialEq, Eq, Debug)]
-struct Turn {
-    line: String,
-    kind: u64,
-    a: u64,
-    b: u64,
-    list: Vec<u8>,
+pub(crate) struct Turn {
+    pub line: String,
+    pub kind: u64,
+    pub a: u64,
+    pub b: u64,
+    pub list: Vec<u8>,
 }
 
 /// Turns, each with how often it and the one before it stand there in turn.
-type Turns = Vec<(Turn, u64)>;
+pub(crate) type Turns = Vec<(Turn, u64)>;
 
-fn turn(line: String, kind: u64, a: u64) -> Turn {
+pub(crate) fn turn(line: String, kind: u64, a: u64) -> Turn {
     Turn { line, kind, a, b: 0, list: Vec::new() }
 }
 
@@ -53,7 +53,7 @@ fn operation(call: AttributeCall) -> u8 {
 }
 
 /// The turn of an event; `None` for one that is no question.
-fn of_event(event: Event) -> Option<Turn> {
+pub(crate) fn of_event(event: Event) -> Option<Turn> {
     Some(match event {
         Event::ConfigRead { bits, offset, answer } => {
             value(format!("config_read{bits} {offset:x}"), if bits == 16 { WORD } else { DWORD }, answer)
@@ -107,7 +107,7 @@ fn folded(trace: &Trace) -> Turns {
 }
 
 /// Where the last two turns are those before them, they are counted there. Only a stall ends a pair.
-fn fold(all: &mut Turns) {
+pub(crate) fn fold(all: &mut Turns) {
     let Some([a, b, c, d]) = all.last_chunk() else {
         return;
     };

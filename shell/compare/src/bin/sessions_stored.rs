@@ -1,0 +1,21 @@
+//! Writes the sample of whole sessions for the gate.
+//!
+//! sessions_stored STDIN STDOUT      the two files
+
+use std::process::ExitCode;
+
+fn main() -> ExitCode {
+    let args: Vec<String> = std::env::args().skip(1).collect();
+    let [stdin, stdout] = args.as_slice() else {
+        eprintln!("sessions_stored STDIN STDOUT");
+        return ExitCode::FAILURE;
+    };
+    let (input, output) = compare::sessions::sample::sample();
+    match std::fs::write(stdin, input).and_then(|()| std::fs::write(stdout, output)) {
+        Ok(()) => ExitCode::SUCCESS,
+        Err(e) => {
+            eprintln!("{e}");
+            ExitCode::FAILURE
+        }
+    }
+}

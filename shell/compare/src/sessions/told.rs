@@ -1,0 +1,140 @@
+//! What a session tells, as the plain data that the Rust's results are given in.
+
+use session::{Books, Outcome, Setup, UndoList};
+use world::bus::Handle;
+use world::results::{Buffer, Capabilities, Closing, Layout, Opened, Port, Refusal, State, Table, Undo};
+
+/// The range of the MTT table among the fourteen.
+const MTT: usize = 5;
+
+pub fn closing(c: session::Closing) -> Closing {
+    match c {
+        session::Closing::Clean => Closing::Clean,
+        session::Closing::Reset => Closing::Reset,
+        session::Closing::Kept => Closing::Kept,
+    }
+}
+
+fn values(r: session::Refusal) -> Vec<u64> {
+    use session::Refusal::*;
+    match r {
+        Attributes | Owner | Reset | Bar | Memory | NotPrimary | Address => Vec::new(),
+        Busy => vec![0],
+        Status { status, us } => vec![status.into(), us],
+        Timeout { us } | Bus { us } => vec![us],
+        Revision(v) => vec![v.into()],
+        MinPage(v) | Ports(v) | Uar(v) | Entry(v) => vec![v.into()],
+        UarArea(v) | Total(v) => vec![v],
+    }
+}
+
+/// The refusal of a failed opening; none where it did not fail.
+pub fn refusal(outcome: Outcome) -> Option<Refusal> {
+    match outcome {
+        Outcome::Failed(r, c) => Some(Refusal { closing: Some(closing(c)), ..Refusal::new(r.number(), &values(r)) }),
+        _ => None,
+    }
+}
+
+fn capabilities(s: &Setup) -> Capabilities {
+    let c = &s.cap;
+    Capabilities {
+        rsvd_qps: c.rsvd_qps,
+        rsvd_srqs: c.rsvd_srqs,
+        rsvd_cqs: c.rsvd_cqs,
+        rsvd_eqs: c.rsvd_eqs,
+        max_eqs: c.max_eqs,
+        rsvd_mtts: c.rsvd_mtts,
+        rsvd_mpts: c.rsvd_mpts,
+        rsvd_uars: c.rsvd_uars,
+        rsvd_pds: c.rsvd_pds,
+        log_max_qp_wqes: c.log_max_qp_wqes,
+        log_max_cqes: c.log_max_cqes,
+        num_sys_eqs: c.num_sys_eqs,
+        ports: c.ports,
+        flags: c.flags,
+        flags2: c.flags2,
+        bmme: c.bmme,
+        eth_prot_ctrl: c.eth_prot_ctrl,
+        eth_backpl_an_rep: c.eth_backpl_an_rep,
+        uar_bytes: c.uar_bytes,
+        entry: c.entry,
+        max_icm: c.max_icm,
+    }
+}
+
+fn port(p: &session::Port) -> Port {
+    Port {
+        num: p.num,
+        link_up: p.link_up,
+        b0: p.b0,
+        mtu_cap: p.mtu_cap,
+        log_macs: p.log_macs,
+        mac: p.mac,
+        autoneg: p.autoneg,
+        an_complete: p.an_complete,
+        speed: p.speed,
+        xcvr: p.xcvr,
+        wavelength: p.wavelength,
+        xcvr_code: p.xcvr_code,
+    }
+}
+
+/// By index; they are told in the order of their bases.
+fn layout(s: &Setup) -> Layout {
+    assert!(s.tables.is_sorted_by_key(|t| t.base), "tables in the order of their bases");
+    let mut tables = [Table::default(); 11];
+    for t in &s.tables {
+        tables[usize::from(t.index)] = Table { entry: t.entry, count: t.count, bytes: t.bytes, base: t.base };
+    }
+    Layout { tables, total: s.total, base_sqpn: s.base_sqpn, first_free_mtt: s.first_free_mtt }
+}
+
+pub fn opened(s: &Setup) -> Opened {
+    Opened {
+        cap: capabilities(s),
+        layout: layout(s),
+        ports: s.ports().iter().map(port).collect(),
+        rev3: s.rev3,
+        uar_bar: s.uar.index,
+        uar_size: s.uar.length,
+    }
+}
+
+fn buffer(b: session::Buffer) -> Buffer {
+    Buffer { handle: Handle(b.handle), address: b.address, pages: b.pages }
+}
+
+/// The books of an open session.
+pub fn state(b: &Books, undo: &UndoList) -> State {
+    let record = |u: &session::Undo| Undo { op: u.op, op_mod: u.op_mod, in_mod: u.in_mod, in_param: u.in_param };
+    State {
+        toggle: b.toggle.into(),
+        broken: b.broken,
+        silent: b.silent,
+        started: b.started,
+        catas: b.catas,
+        original: b.original,
+        inbox: buffer(b.inbox.expect("an open session has its inbox")),
+        outbox: buffer(b.outbox.expect("an open session has its outbox")),
+        fa: b.fa.map(buffer),
+        aux: b.aux.map(buffer),
+        icm: b.ranges().iter().map(|r| (r.virt, buffer(r.buffer))).collect(),
+        mtt: (b.ranges().len() > MTT).then_some(MTT),
+        lent: b.lent().iter().copied().map(buffer).collect(),
+        undo: undo.records().iter().map(record).collect(),
+    }
+}
+
+/// How a closed session ended.
+pub fn closed(outcome: Outcome) -> Closing {
+    match outcome {
+        Outcome::Closed(c) => closing(c),
+        other => panic!("a close ends closed: {other:?}"),
+    }
+}
+
+/// A record for the session's undo list.
+pub fn record(u: &Undo) -> session::Undo {
+    session::Undo { op: u.op, op_mod: u.op_mod, in_mod: u.in_mod, in_param: u.in_param }
+}

@@ -1,0 +1,566 @@
+//! What lies outside the Rust's domain: answers of the wrong kind (20), short slices (21), bad device addresses (18), and
+//! bytes that are no session. The definition alone decides there; a call that is refused changes nothing.
+
+use compare::sessions::beside::{ours, rust, Ran};
+use compare::sessions::cases::{self, Case};
+use compare::sessions::over::Over;
+use session::abi::{self, Words};
+use session::ffi::{self, Lent, Reader, Told};
+use session::{Closing, Outcome, Question, Refusal, Refused, Session, Undo, UndoList};
+use world::plan::OddMap;
+use world::prng::Prng;
+use world::trace::{Event, Trace};
+use world::{World, PAGE};
+
+const DAMAGES: u64 = if cfg!(debug_assertions) { 2_000 } else { 300_000 };
+/// So many turns lie between two at which everything is tried.
+const STRIDE: usize = if cfg!(debug_assertions) { 41 } else { 1 };
+
+/// What is lent to a call, in copies.
+#[derive(Clone, PartialEq, Eq, Debug)]
+struct Copies {
+    state: Vec<u8>,
+    inbox: Vec<u8>,
+    outbox: Vec<u8>,
+    count: usize,
+    out: Vec<u8>,
+}
+
+impl Copies {
+    fn of(s: &Session) -> Copies {
+        let (state, inbox, outbox) = (s.state().to_vec(), s.inbox().to_vec(), s.outbox().to_vec());
+        Copies { state, inbox, outbox, count: 0, out: vec![0x5a; abi::TURN] }
+    }
+
+    fn call(&mut self, call: impl FnOnce(Lent) -> u32) -> u32 {
+        let Copies { state, inbox, outbox, count, out } = self;
+        call(Lent { state, inbox, outbox, count: *count, top: Undo::default(), out })
+    }
+}
+
+/// A call that must be refused with this number, and leave every byte.
+fn refused(copies: &Copies, number: u32, what: &str, call: impl FnOnce(Lent) -> u32) {
+    let mut after = copies.clone();
+    let given = after.call(call);
+    assert_eq!(given, number, "{what}");
+    assert!(after == *copies, "{what}: something was changed");
+}
+
+fn told(kind: u32, a: u64, b: u64) -> Told<'static> {
+    Told { kind, a, b, resource: &[] }
+}
+
+/// An answer that suits a question; none where it is no question.
+fn good(q: Question) -> Option<Told<'static>> {
+    Some(match q {
+        Question::Finished => return None,
+        Question::ConfigRead16 { .. } => told(abi::WORD, 1, 0),
+        Question::ConfigRead32 { .. } | Question::RegisterRead { .. } => told(abi::DWORD, 1, 0),
+        Question::Attributes { .. } => told(abi::QWORD, 1, 0),
+        Question::Resource { .. } => told(abi::LIST, 0, 0),
+        Question::Allocate { .. } => told(abi::HANDLE, 1, 0),
+        Question::Map { bytes, .. } => told(abi::MAPPED, PAGE, bytes),
+        _ => told(abi::DONE, 0, 0),
+    })
+}
+
+/// Whether a kind of answer suits a question.
+fn suits(q: Question, kind: u32) -> bool {
+    let cannot_fail = matches!(q, Question::Stall { .. } | Question::Fence);
+    good(q).is_some_and(|t| t.kind == kind || kind == abi::FAILED && !cannot_fail)
+}
+
+/// Every kind that does not suit, and values that are too wide for theirs.
+fn wrong_answers(q: Question) -> Vec<Told<'static>> {
+    let mut all: Vec<Told> = (0..12).filter(|k| !suits(q, *k)).map(|k| told(k, 1, PAGE)).collect();
+    all.extend([told(u32::MAX, 0, 0), told(abi::WORD, 1 << 16, 0), told(abi::WORD, u64::MAX, 0)]);
+    all.extend([told(abi::DWORD, 1 << 32, 0), told(abi::DWORD, u64::MAX, 0)]);
+    all
+}
+
+/// What is lent, with one thing too short, too long or too many.
+fn short(copies: &Copies) -> Vec<(&'static str, Copies)> {
+    let with = |change: &dyn Fn(&mut Copies)| {
+        let mut c = copies.clone();
+        change(&mut c);
+        c
+    };
+    vec![
+        ("state", with(&|c| c.state.truncate(abi::STATE - 1))),
+        ("no state", with(&|c| c.state.clear())),
+        ("inbox", with(&|c| c.inbox.truncate(abi::MAILBOX - 1))),
+        ("no inbox", with(&|c| c.inbox.clear())),
+        ("long inbox", with(&|c| c.inbox.push(0))),
+        ("outbox", with(&|c| c.outbox.truncate(abi::MAILBOX - 1))),
+        ("no outbox", with(&|c| c.outbox.clear())),
+        ("long outbox", with(&|c| c.outbox.push(0))),
+        ("out", with(&|c| c.out.truncate(abi::TURN - 1))),
+        ("no out", with(&|c| c.out.clear())),
+        ("undo records", with(&|c| c.count = abi::UNDO_RECORDS + 1)),
+        ("very many undo records", with(&|c| c.count = usize::MAX)),
+    ]
+}
+
+/// Everything that is refused while a question is open.
+fn try_all(copies: &Copies, q: Question) {
+    refused(copies, abi::WRONG, "open", ffi::open);
+    refused(copies, abi::WRONG, "close", ffi::close);
+    for t in wrong_answers(q) {
+        refused(copies, abi::WRONG, &format!("{q:?} {t:?}"), |l| ffi::answer(l, t));
+    }
+    let Some(t) = good(q) else {
+        return;
+    };
+    for (what, c) in short(copies) {
+        refused(&c, abi::SHORT, &format!("{q:?} {what}"), |l| ffi::answer(l, t));
+        refused(&c, abi::WRONG, &format!("{q:?} {what}, unknown kind"), |l| ffi::answer(l, told(0, 0, 0)));
+        if !what.ends_with("state") {
+            let wrong = if t.kind == abi::QWORD { abi::WORD } else { abi::QWORD };
+            refused(&c, abi::WRONG, &format!("{q:?} {what}, wrong kind"), |l| ffi::answer(l, told(wrong, 1, 0)));
+            refused(&c, abi::WRONG, &format!("{q:?} {what}, open"), ffi::open);
+        }
+    }
+    try_readers(copies, q);
+}
+
+/// The readers: what they need, and that they leave the rest of a longer slice.
+fn try_readers(copies: &Copies, q: Question) {
+    let all = [
+        (Reader::Question, abi::QUESTION),
+        (Reader::Result, abi::RESULT),
+        (Reader::Books, abi::BOOKS),
+        (Reader::Setup, abi::SETUP),
+    ];
+    for (which, bytes) in all {
+        let mut out = vec![0x5a; bytes + 8];
+        let taken = which != Reader::Setup;
+        let number = ffi::read(which, &copies.state, &mut out);
+        assert_eq!(number, if taken { 0 } else { abi::WRONG }, "{which:?} {q:?}");
+        assert_eq!(out[bytes..], [0x5a; 8], "{which:?}");
+        let mut cut = vec![0x5a; bytes - 1];
+        let number = ffi::read(which, &copies.state, &mut cut);
+        assert_eq!(number, if taken { abi::SHORT } else { abi::WRONG }, "{which:?} {q:?}");
+        assert!(cut.iter().all(|b| *b == 0x5a), "{which:?}");
+        let number = ffi::read(which, &copies.state[..abi::STATE - 1], &mut out);
+        assert_eq!(number, abi::SHORT, "{which:?}");
+    }
+    let mut out = [0; abi::QUESTION];
+    assert_eq!(ffi::read(Reader::Question, &copies.state, &mut out), 0);
+    assert_eq!(Question::of(&Words(&out)), Some(q), "the open question");
+}
+
+/// Runs a call, with everything tried at its questions.
+fn through(session: &mut Session, bus: &mut World, undo: &mut UndoList, first: Question, at: &mut usize) {
+    let mut over = Over::new(bus);
+    let mut list = [0; 64];
+    let mut q = first;
+    while q != Question::Finished {
+        *at += 1;
+        if at.is_multiple_of(STRIDE) {
+            try_all(&Copies::of(session), q);
+        }
+        let answer = session.ask(&mut over, &mut list);
+        q = session.answer(answer, undo).expect("an answer that suits");
+    }
+}
+
+/// Calls on an idle session that must be refused, and an answer too.
+fn idle(session: &Session, calls: &[fn(Lent) -> u32]) {
+    let copies = Copies::of(session);
+    for call in calls {
+        refused(&copies, abi::WRONG, "a call at the wrong time", call);
+        for (what, c) in short(&copies) {
+            let number = if what.ends_with("state") { abi::SHORT } else { abi::WRONG };
+            refused(&c, number, what, call);
+        }
+    }
+    for kind in 0..10 {
+        refused(&copies, abi::WRONG, "answer", |l| ffi::answer(l, told(kind, 1, 1)));
+    }
+}
+
+/// Short slices at a call that would be taken.
+fn shortened(session: &Session, what: &str, call: fn(Lent) -> u32) {
+    for (short, c) in short(&Copies::of(session)) {
+        refused(&c, abi::SHORT, &format!("{what} {short}"), call);
+    }
+}
+
+#[test]
+fn refused_calls_change_nothing_at_any_question() {
+    for case in [&cases::variants()[2], &cases::variants()[3]] {
+        let mut bus = World::new(case.plan.clone());
+        let (mut session, mut undo) = (Session::with_mailboxes([0xa5; 4096], [0xa5; 4096]), UndoList::new());
+        let mut at = 0;
+        idle(&session, &[ffi::close]);
+        shortened(&session, "open", ffi::open);
+        let first = session.begin_open(&mut undo).expect("a fresh session");
+        through(&mut session, &mut bus, &mut undo, first, &mut at);
+        assert_eq!(session.result(), Ok(Outcome::Open));
+        idle(&session, &[ffi::open]);
+        shortened(&session, "close", ffi::close);
+        assert!(undo.push(Undo { op: 0x20, ..Undo::default() }));
+        let first = session.begin_close(&mut undo).expect("an open session");
+        through(&mut session, &mut bus, &mut undo, first, &mut at);
+        assert_eq!(session.result(), Ok(Outcome::Closed(Closing::Clean)));
+        idle(&session, &[ffi::open, ffi::close]);
+        assert_eq!(session.setup(), Err(Refused::Wrong));
+        assert!(at > 700, "{at} questions");
+    }
+}
+
+#[test]
+fn a_fresh_session_is_made_in_room_enough() {
+    for bytes in [0, 1, abi::STATE - 1] {
+        let mut state = vec![0x5a; bytes];
+        assert_eq!(ffi::fresh(&mut state), abi::SHORT);
+        assert!(state.iter().all(|b| *b == 0x5a));
+    }
+    let mut state = vec![0x5a; abi::STATE + 8];
+    assert_eq!(ffi::fresh(&mut state), 0);
+    assert_eq!(state[..abi::STATE], Session::new().state()[..]);
+    assert_eq!(state[abi::STATE..], [0x5a; 8]);
+}
+
+/// The trace's questions; of the odd map no answer.
+fn questions(trace: &Trace) -> Vec<String> {
+    let shown = |e: Event| match e {
+        Event::Map { handle, bytes, .. } => format!("map {handle} {bytes:x}"),
+        e => e.to_string(),
+    };
+    trace.events().map(shown).collect()
+}
+
+/// A map whose address is refused leads to what a map of another size leads to, which the Rust knows.
+#[test]
+fn a_bad_device_address_is_18_and_goes_back() {
+    let case = &cases::variants()[0];
+    let maps = questions(&ours(case).ran.opening).iter().filter(|q| q.starts_with("map")).count() as u64;
+    assert_eq!(maps, 18);
+    for n in 0..maps {
+        let odd = |address: Option<u64>, bytes: Option<u64>| {
+            let mut odd = case.clone();
+            odd.plan.host.odd_maps = vec![(n, OddMap { address, bytes })];
+            odd
+        };
+        let five = rust(&odd(None, Some(1))).expect("inside the domain").ran;
+        assert_eq!(five.opened.as_ref().expect_err("refused").number, 5);
+        for address in [1, 0x1001, 0xfff, u64::MAX, u64::MAX - 4094, 1 << 11] {
+            is_18(&odd(Some(address), None), &five);
+            is_18(&odd(Some(address), Some(0)), &five);
+        }
+        // Its end lies above 2^64, where it has more than one page.
+        let pages = asked_pages(&five);
+        let last = 0u64.wrapping_sub(PAGE);
+        let run = ours(&odd(Some(last), None)).ran;
+        if pages > 1 {
+            is_18(&odd(Some(last), None), &five);
+        } else {
+            assert!(run.opened.is_ok(), "one page that ends at 2^64");
+        }
+    }
+}
+
+/// The pages of the last allocation before the first unmap.
+fn asked_pages(ran: &Ran) -> u64 {
+    let before = ran.opening.events().take_while(|e| !matches!(e, Event::Unmap { .. }));
+    let pages = before.filter_map(|e| if let Event::Allocate { pages, .. } = e { Some(pages) } else { None });
+    pages.last().expect("an allocation")
+}
+
+fn is_18(case: &Case, five: &Ran) {
+    let run = ours(case).ran;
+    let (refusal, expected) = (run.opened.expect_err("refused"), five.opened.as_ref().expect_err("refused"));
+    assert_eq!((refusal.number, refusal.closing), (18, expected.closing));
+    assert_eq!(questions(&run.opening), questions(&five.opening));
+    assert_eq!((run.inbox, run.outbox), (five.inbox.clone(), five.outbox.clone()));
+    assert!(run.holdings.in_use.is_empty() && run.misuse.is_empty());
+}
+
+/// Auxiliary pages whose bytes pass 2^64: nothing is asked for them, and the closing takes back what is there.
+#[test]
+fn too_many_auxiliary_pages_are_18() {
+    for pages in [1 << 52, (1 << 52) + 1, u64::MAX] {
+        let mut case = cases::variants()[0].clone();
+        case.plan.card.replies.aux_pages = pages;
+        let run = ours(&case).ran;
+        let refusal = run.opened.expect_err("refused");
+        assert_eq!((refusal.number, refusal.closing), (18, Some(world::results::Closing::Clean)));
+        assert_eq!(run.opening.posts().last().map(|p| p.op), Some(world::registers::UNMAP_FA));
+        assert!(run.holdings.in_use.is_empty() && run.misuse.is_empty());
+    }
+    let mut case = cases::variants()[0].clone();
+    case.plan.card.replies.aux_pages = (1 << 52) - 1;
+    let run = ours(&case).ran;
+    assert_eq!(run.opened.expect_err("refused").number, 5);
+    assert!(questions(&run.opening).contains(&format!("alloc {} -> fail", (1u64 << 52) - 1)));
+}
+
+/// Records that stand on the list when an opening fails are sent by its closing; one that is reserved counts as failed.
+#[test]
+fn records_at_a_failed_opening() {
+    for (op, sent, closing) in [(0x20, 2, Closing::Clean), (0xfff, 0, Closing::Reset), (0x1000, 0, Closing::Reset)] {
+        let mut case = cases::variants()[0].clone();
+        case.plan.card.replies.cap[0x37] = 3;
+        let mut bus = world::traced::Traced::new(World::new(case.plan));
+        let (mut session, mut undo) = (Session::new(), UndoList::new());
+        assert!(undo.push(Undo { op: 0x21, ..Undo::default() }) && undo.push(Undo { op, ..Undo::default() }));
+        let outcome = session.open(&mut Over::new(&mut bus), &mut undo).expect("a fresh session");
+        assert_eq!(outcome, Outcome::Failed(Refusal::Ports(3), closing));
+        assert_eq!(undo.len(), 2 - sent);
+        let trace = bus.take();
+        let ops: Vec<u16> = trace.posts().map(|p| p.op).filter(|o| matches!(o, 0x20 | 0x21)).collect();
+        assert_eq!(ops, [0x20, 0x21][..sent]);
+        assert!(bus.bus.misuse().is_empty() && bus.bus.in_use().is_empty());
+    }
+}
+
+/// A list of 256 records is sent whole; a 257th has no room.
+#[test]
+fn a_full_undo_list() {
+    let mut bus = World::new(cases::variants()[0].plan.clone());
+    let (mut session, mut undo) = (Session::new(), UndoList::new());
+    assert_eq!(session.open(&mut Over::new(&mut bus), &mut undo), Ok(Outcome::Open));
+    for i in 0..256 {
+        assert!(undo.push(Undo { op: 0x20, op_mod: 0, in_mod: i, in_param: 0 }));
+    }
+    assert!(!undo.push(Undo::default()));
+    let mut bus = world::traced::Traced::new(bus);
+    assert_eq!(session.close(&mut Over::new(&mut bus), &mut undo), Ok(Outcome::Closed(Closing::Clean)));
+    let sent: Vec<u32> = bus.trace.posts().filter(|p| p.op == 0x20).map(|p| p.in_mod).collect();
+    assert_eq!(sent, (0..256).rev().collect::<Vec<u32>>());
+    assert!(undo.is_empty());
+}
+
+/// A byte behind the first ten words that is 0 in every session: the highest of how many ranges there are.
+const RANGES: usize = 21 * 8;
+
+/// What the open question may be while a command is polled.
+fn polls(q: Question) -> bool {
+    matches!(q, Question::RegisterRead { bar: 0, offset: 0x80698 } | Question::Stall { us: 1 | 100 })
+}
+
+/// An answer to a poll changes words 1 and 9 of the session at most, and looks at none behind word 9: damage there is found
+/// by the first answer that is not to a poll.
+#[test]
+fn a_poll_touches_the_first_words_alone() {
+    let mut case = cases::variants()[0].clone();
+    case.plan.card.commands = vec![(world::plan::Which::Number(3), world::plan::Behaviour::after(1_005))];
+    let mut bus = World::new(case.plan);
+    let (mut session, mut undo) = (Session::new(), UndoList::new());
+    let mut q = session.begin_open(&mut undo).expect("a fresh session");
+    let (mut list, mut polled) = ([0; 64], 0);
+    while q != Question::Finished {
+        let before = Copies::of(&session);
+        let answer = session.ask(&mut Over::new(&mut bus), &mut list);
+        let mut damaged = before.clone();
+        damaged.state[RANGES] = 1;
+        let next = session.answer(answer, &mut undo).expect("an answer that suits");
+        if polls(q) && polls(next) && next != q {
+            polled += 1;
+            let changed = |k: &usize| before.state[*k] != session.state()[*k];
+            assert!((0..abi::STATE).filter(changed).all(|k| [1, 9].contains(&(k / 8))), "{q:?}");
+            assert_eq!(damaged.call(|l| ffi::answer(l, answer.told())), 0, "{q:?}");
+            damaged.state[RANGES] = 0;
+            assert_eq!(damaged.state, session.state());
+            assert_eq!(Question::of(&Words(&damaged.out)), Some(next));
+        } else if !polls(q) {
+            refused(&damaged, abi::WRONG, "damage", |l| ffi::answer(l, answer.told()));
+        }
+        q = next;
+    }
+    assert_eq!(polled, 2 * 1_005);
+}
+
+/// A handle is any number, 0 as well.
+#[test]
+fn handles_are_any_numbers() {
+    let run = |mask: u64| {
+        let mut bus = world::traced::Traced::new(World::new(cases::variants()[0].plan.clone()));
+        let (mut session, mut undo) = (Session::new(), UndoList::new());
+        let mut over = Over::masked(&mut bus, mask);
+        assert_eq!(session.open(&mut over, &mut undo), Ok(Outcome::Open));
+        assert_eq!(session.books().expect("a session").inbox.map(|b| b.handle), Some(1 ^ mask));
+        assert_eq!(session.close(&mut over, &mut undo), Ok(Outcome::Closed(Closing::Clean)));
+        bus.take().full()
+    };
+    let plain = run(0);
+    for mask in [1, 2, 0xff, 1 << 63, u64::MAX] {
+        assert_eq!(run(mask), plain, "{mask:x}");
+    }
+}
+
+/// The opcodes that a close sends when the list is changed at its first stop behind the command `op`.
+fn closed_with(change: impl Fn(&mut UndoList), op: u16) -> (Vec<u16>, Outcome, usize) {
+    let mut bus = world::traced::Traced::new(World::new(cases::variants()[0].plan.clone()));
+    let (mut session, mut undo) = (Session::new(), UndoList::new());
+    assert_eq!(session.open(&mut Over::new(&mut bus), &mut undo), Ok(Outcome::Open));
+    bus.take();
+    assert!(undo.push(Undo { op: 0x21, ..Undo::default() }) && undo.push(Undo { op: 0x22, ..Undo::default() }));
+    let mut q = session.begin_close(&mut undo).expect("an open session");
+    let mut list = [0; 64];
+    let mut changed = false;
+    while q != Question::Finished {
+        let answer = session.ask(&mut Over::new(&mut bus), &mut list);
+        if !changed && bus.trace.posts().any(|p| p.op == op) {
+            changed = true;
+            change(&mut undo);
+        }
+        q = session.answer(answer, &mut undo).expect("an answer that suits");
+    }
+    let sent = bus.take().posts().map(|p| p.op).take(5).collect();
+    (sent, session.result().expect("a session"), undo.len())
+}
+
+/// The newest record of the list as it is lent at each turn is sent; one that has become reserved counts as failed.
+#[test]
+fn a_list_that_changes_while_it_is_sent() {
+    const NEXT: [u16; 3] = [0x008, 0xff9, 0xff9];
+    let more = |op: u16| move |undo: &mut UndoList| assert!(undo.push(Undo { op, ..Undo::default() }));
+    let (sent, outcome, left) = closed_with(more(0x23), 0x22);
+    assert_eq!(sent[..4], [0x22, 0x23, 0x21, NEXT[0]]);
+    assert_eq!((outcome, left), (Outcome::Closed(Closing::Clean), 0));
+    let (sent, outcome, left) = closed_with(more(0xff6), 0x22);
+    assert_eq!((sent, outcome, left), (vec![0x22], Outcome::Closed(Closing::Reset), 2));
+    let (sent, outcome, left) = closed_with(|undo| undo.truncate(0), 0x22);
+    assert_eq!((sent[..4].to_vec(), left), ([&[0x22], &NEXT[..]].concat(), 0));
+    assert_eq!(outcome, Outcome::Closed(Closing::Clean));
+    // Behind the last record the list is not looked at again.
+    let (sent, outcome, left) = closed_with(more(0x23), 0x008);
+    assert_eq!((sent[..3].to_vec(), left), (vec![0x22, 0x21, 0x008], 1));
+    assert_eq!(outcome, Outcome::Closed(Closing::Clean));
+}
+
+/// The session's bytes at every so-manieth question of an opening and a close.
+fn snapshots() -> Vec<(Copies, Question)> {
+    let mut all = Vec::new();
+    let case = &cases::variants()[5];
+    let mut bus = World::new(case.plan.clone());
+    let (mut session, mut undo) = (Session::new(), UndoList::new());
+    let mut list = [0; 64];
+    let mut q = session.begin_open(&mut undo).expect("a fresh session");
+    for closing in [false, true] {
+        if closing {
+            q = session.begin_close(&mut undo).expect("an open session");
+        }
+        while q != Question::Finished {
+            all.push((Copies::of(&session), q));
+            let answer = session.ask(&mut Over::new(&mut bus), &mut list);
+            q = session.answer(answer, &mut undo).expect("an answer that suits");
+        }
+        all.push((Copies::of(&session), q));
+    }
+    all
+}
+
+/// One to three words or bytes of the state are changed.
+fn damage(r: &mut Prng, state: &mut [u8]) {
+    for _ in 0..=r.below(3) {
+        let hot = r.one_in(3);
+        let at = r.below(if hot { 27 } else { 417 }) as usize * 8;
+        let any = r.next_u64();
+        let small = r.below(24);
+        let word = r.pick(&[0, 1, 2, 3, small, small, 14, 15, 64, 65, 256, 0xffff_ffff, 1 << 32, u64::MAX, any]);
+        match r.below(3) {
+            0 => state[at + r.below(8) as usize] ^= 1 << r.below(8),
+            _ => state[at..at + 8].copy_from_slice(&word.to_be_bytes()),
+        }
+    }
+}
+
+fn any_answer(r: &mut Prng, q: Question) -> Told<'static> {
+    let value = r.next_u64();
+    let value = r.pick(&[0, 1, PAGE, 0x8000, value, value & 0xffff, value & 0xffff_ffff, u64::MAX]);
+    match good(q) {
+        Some(t) if !r.one_in(4) => Told { a: value & 0xffff, ..t },
+        _ => told(r.below(10) as u32, value, r.pick(&[0, PAGE, value])),
+    }
+}
+
+/// Damaged bytes are refused, or make another session; no call faults, and one that is refused changes nothing.
+#[test]
+fn damaged_bytes_never_fault() {
+    let all = snapshots();
+    let mut r = Prng::new(5);
+    let mut given = [0u64; 3];
+    for _ in 0..DAMAGES {
+        let (copies, q) = &all[r.below(all.len() as u64) as usize];
+        let mut damaged = copies.clone();
+        damage(&mut r, &mut damaged.state);
+        damaged.count = r.pick(&[0, 0, 1, 256]);
+        for _ in 0..1 + r.below(4) {
+            let before = damaged.clone();
+            let t = any_answer(&mut r, *q);
+            let number = match r.below(8) {
+                0 => damaged.call(ffi::open),
+                1 => damaged.call(ffi::close),
+                _ => damaged.call(|l| ffi::answer(l, t)),
+            };
+            match number {
+                0 => given[0] += 1,
+                abi::WRONG => given[1] += 1,
+                abi::SHORT => given[2] += 1,
+                n => panic!("refused with {n}"),
+            }
+            assert!(number == 0 || damaged == before, "a refused call changed something");
+        }
+        let mut out = vec![0; abi::BOOKS];
+        for which in [Reader::Question, Reader::Result, Reader::Setup, Reader::Books] {
+            assert!([0, abi::WRONG].contains(&ffi::read(which, &damaged.state, &mut out)));
+        }
+    }
+    assert!(given[0] > 0 && given[1] > 0, "{given:?}");
+    println!("taken, 20, 21: {given:?}");
+}
+
+/// Any bytes at all.
+#[test]
+fn random_bytes_are_no_session() {
+    let mut r = Prng::new(6);
+    for _ in 0..DAMAGES / 100 {
+        let state = r.bytes(abi::STATE);
+        let copies = Copies { state, inbox: vec![0; 4096], outbox: vec![0; 4096], count: 0, out: vec![0; abi::TURN] };
+        refused(&copies, abi::WRONG, "open", ffi::open);
+        refused(&copies, abi::WRONG, "close", ffi::close);
+        refused(&copies, abi::WRONG, "answer", |l| ffi::answer(l, told(abi::DONE, 0, 0)));
+        let mut out = vec![0; abi::BOOKS];
+        assert_eq!(ffi::read(Reader::Books, &copies.state, &mut out), abi::WRONG);
+        for (what, c) in short(&copies).into_iter().filter(|(what, _)| !what.ends_with("state")) {
+            refused(&c, abi::WRONG, what, ffi::open);
+        }
+    }
+}
+
+/// Words that are no question, as no call writes them.
+#[test]
+fn words_that_are_no_question() {
+    let of = |words: [u64; 4]| Question::of(&Words(&words.map(u64::to_be_bytes).concat()));
+    assert_eq!(of([14, 0, 0, 0]), Some(Question::Fence));
+    assert_eq!(of([5, 6, 7, 0]), Some(Question::RegisterRead { bar: 6, offset: 7 }));
+    let none = [[15, 0, 0, 0], [u64::MAX; 4], [1, 1 << 16, 0, 0], [3, 0, 1 << 16, 0], [4, 0, 1 << 32, 0]];
+    assert!(none.into_iter().all(|w| of(w).is_none()));
+    let none = [[5, 256, 0, 0], [6, 0, 0, 1 << 32], [7, 3, 0, 0], [8, 256, 0, 0], [9, 1 << 32, 0, 0]];
+    assert!(none.into_iter().all(|w| of(w).is_none()));
+}
+
+/// A list shorter than its descriptor is no answer, though it has the tag; one that is longer than the loop's room is cut.
+#[test]
+fn resource_lists_of_any_length() {
+    let mut whole = vec![0x8a; 14];
+    whole.extend(0xe000_0000u64.to_le_bytes());
+    whole.extend([0; 16]);
+    whole.extend((8u64 << 20).to_le_bytes());
+    whole.resize(400, 0x5a);
+    for length in [0, 1, 13, 14, 22, 38, 45, 46, 47, 64, 65, 400] {
+        let mut case = cases::variants()[7].clone();
+        let list = world::bus::Resource::List(whole[..length].to_vec());
+        case.plan.resources.odd = (0..6).map(|i| (i, list.clone())).collect();
+        let run = ours(&case).ran;
+        let opened = run.opened.expect("a good opening");
+        let expected = (length >= 46).then_some(8 << 20);
+        assert_eq!((opened.uar_bar, opened.uar_size), (2, expected), "{length} bytes");
+        if length >= 46 {
+            assert_eq!(rust(&case).expect("inside the domain").ran.opened.expect("good"), opened);
+        }
+    }
+}

@@ -1,0 +1,222 @@
+//! A session, and the loop that answers its questions.
+
+use crate::abi::{self, Words, MAILBOX, STATE, TURN};
+use crate::books::Books;
+use crate::bus::{Bus, Fence, Mailbox};
+use crate::ffi::{self, Lent, Reader};
+use crate::outcome::Outcome;
+use crate::question::{Answer, Question};
+use crate::setup::Setup;
+use crate::undo::UndoList;
+
+/// Why a call was not taken. It has changed nothing, and an open question stays open.
+#[derive(Clone, Copy, PartialEq, Eq, Debug)]
+pub enum Refused {
+    /// 20: a call at the wrong time, an answer of the wrong kind, or bytes that are no session.
+    Wrong,
+    /// 21: a slice is too short. No call of this module lends one.
+    Short,
+    /// The library gave a number or a word that include/hca.h does not have.
+    Unknown,
+}
+
+/// No more of a resource list is handed on.
+const LIST: usize = 64;
+
+/// A card's session: its bytes, the two mailboxes, and what a fence has to know. It is some 12 KB, and needs no
+/// allocation; it may be moved between two calls.
+pub struct Session {
+    state: [u8; STATE],
+    inbox: Mailbox,
+    outbox: Mailbox,
+    question: Question,
+    /// The open question is a fence behind a write, not behind a read.
+    before: bool,
+    /// The pages of the good allocations, as far as the second.
+    boxes: [u64; 2],
+    allocated: usize,
+}
+
+impl Default for Session {
+    fn default() -> Session {
+        Session::new()
+    }
+}
+
+impl Session {
+    /// A session that was never opened. It is opened once; a new opening takes a new session.
+    pub fn new() -> Session {
+        Session::with_mailboxes([0; MAILBOX], [0; MAILBOX])
+    }
+
+    /// The same with mailboxes that hold anything: each is zeroed once its pages are there.
+    pub fn with_mailboxes(inbox: Mailbox, outbox: Mailbox) -> Session {
+        let mut state = [0; STATE];
+        // The bytes are as many as it takes.
+        let _ = ffi::fresh(&mut state);
+        Session { state, inbox, outbox, question: Question::Finished, before: false, boxes: [0; 2], allocated: 0 }
+    }
+
+    /// Brings the card up. Gives `Outcome::Open` or `Outcome::Failed`.
+    pub fn open(&mut self, bus: &mut impl Bus, undo: &mut UndoList) -> Result<Outcome, Refused> {
+        self.begin_open(undo)?;
+        self.finish(bus, undo)
+    }
+
+    /// Takes back what is on the undo list, and gives up the card with all that it holds. Gives `Outcome::Closed`.
+    pub fn close(&mut self, bus: &mut impl Bus, undo: &mut UndoList) -> Result<Outcome, Refused> {
+        self.begin_close(undo)?;
+        self.finish(bus, undo)
+    }
+
+    /// Answers questions until none is open.
+    pub fn finish(&mut self, bus: &mut impl Bus, undo: &mut UndoList) -> Result<Outcome, Refused> {
+        let mut list = [0; LIST];
+        while self.question != Question::Finished {
+            let answer = self.ask(bus, &mut list);
+            self.answer(answer, undo)?;
+        }
+        self.result()
+    }
+
+    /// Begins an opening; its first question.
+    pub fn begin_open(&mut self, undo: &mut UndoList) -> Result<Question, Refused> {
+        self.turn(undo, ffi::open)
+    }
+
+    /// Begins a close; its first question.
+    pub fn begin_close(&mut self, undo: &mut UndoList) -> Result<Question, Refused> {
+        self.turn(undo, ffi::close)
+    }
+
+    /// Hands in what came of the open question; the next one.
+    pub fn answer(&mut self, answer: Answer, undo: &mut UndoList) -> Result<Question, Refused> {
+        let next = self.turn(undo, |lent| ffi::answer(lent, answer.told()))?;
+        if let (Answer::Handle(pages), Some(b)) = (answer, self.boxes.get_mut(self.allocated)) {
+            *b = pages;
+            self.allocated += 1;
+        }
+        Ok(next)
+    }
+
+    /// Does what the open question says. `list` takes the bytes of a resource list.
+    pub fn ask<'a>(&mut self, bus: &mut impl Bus, list: &'a mut [u8]) -> Answer<'a> {
+        match self.question {
+            Question::Finished => Answer::Done,
+            Question::ConfigRead16 { offset } => bus.config_read16(offset).map_or(Answer::Failed, Answer::Word),
+            Question::ConfigRead32 { offset } => bus.config_read32(offset).map_or(Answer::Failed, Answer::Dword),
+            Question::ConfigWrite16 { offset, value } => done(bus.config_write16(offset, value)),
+            Question::ConfigWrite32 { offset, value } => done(bus.config_write32(offset, value)),
+            Question::RegisterRead { bar, offset } => {
+                bus.register_read(bar, offset).map_or(Answer::Failed, Answer::Dword)
+            }
+            Question::RegisterWrite { bar, offset, value } => done(bus.register_write(bar, offset, value)),
+            Question::Attributes { call, value } => bus.attributes(call, value).map_or(Answer::Failed, Answer::Qword),
+            Question::Resource { bar } => resource(bus, bar, list),
+            Question::Stall { us } => {
+                bus.stall(us);
+                Answer::Done
+            }
+            Question::Allocate { pages } => bus.allocate(pages).map_or(Answer::Failed, Answer::Handle),
+            Question::Map { handle, bytes } => bus.map(handle, bytes).map_or(Answer::Failed, Answer::Mapped),
+            Question::Unmap { handle } => done(bus.unmap(handle)),
+            Question::Free { handle, pages } => done(bus.free(handle, pages)),
+            Question::Fence => {
+                bus.fence(self.fence());
+                Answer::Done
+            }
+        }
+    }
+
+    fn fence(&mut self) -> Fence<'_> {
+        let [inbox_pages, outbox_pages] = self.boxes;
+        if self.before {
+            Fence::ToDevice { inbox: &self.inbox, inbox_pages, outbox: &self.outbox, outbox_pages }
+        } else {
+            Fence::FromDevice { outbox: &mut self.outbox, outbox_pages }
+        }
+    }
+
+    /// The open question, as the session's bytes have it.
+    pub fn question(&self) -> Result<Question, Refused> {
+        let mut out = [0; abi::QUESTION];
+        self.read(Reader::Question, &mut out)?;
+        Question::of(&Words(&out)).ok_or(Refused::Unknown)
+    }
+
+    /// What has become of the session.
+    pub fn result(&self) -> Result<Outcome, Refused> {
+        let mut out = [0; abi::RESULT];
+        self.read(Reader::Result, &mut out)?;
+        Outcome::of(&Words(&out)).ok_or(Refused::Unknown)
+    }
+
+    /// What the opening has found out; only of an open session.
+    pub fn setup(&self) -> Result<Setup, Refused> {
+        let mut out = [0; abi::SETUP];
+        self.read(Reader::Setup, &mut out)?;
+        Setup::of(&Words(&out)).ok_or(Refused::Unknown)
+    }
+
+    /// What the session holds.
+    pub fn books(&self) -> Result<Books, Refused> {
+        let mut out = [0; abi::BOOKS];
+        self.read(Reader::Books, &mut out)?;
+        Books::of(&Words(&out)).ok_or(Refused::Unknown)
+    }
+
+    /// The session's bytes, as they are lent.
+    pub fn state(&self) -> &[u8; STATE] {
+        &self.state
+    }
+
+    pub fn inbox(&self) -> &Mailbox {
+        &self.inbox
+    }
+
+    pub fn outbox(&self) -> &Mailbox {
+        &self.outbox
+    }
+
+    fn read(&self, which: Reader, out: &mut [u8]) -> Result<(), Refused> {
+        taken(ffi::read(which, &self.state, out))
+    }
+
+    /// One call: all is lent, the next question is kept, and the undo list is cut to what the call has left on it.
+    fn turn(&mut self, undo: &mut UndoList, call: impl FnOnce(Lent) -> u32) -> Result<Question, Refused> {
+        let mut out = [0; TURN];
+        let (count, top) = (undo.len(), undo.top());
+        let Session { state, inbox, outbox, .. } = self;
+        taken(call(Lent { state, inbox, outbox, count, top, out: &mut out }))?;
+        let words = Words(&out);
+        let next = Question::of(&words).ok_or(Refused::Unknown)?;
+        undo.truncate(usize::try_from(words.at(4)).map_err(|_| Refused::Unknown)?);
+        self.before = matches!(self.question, Question::RegisterWrite { .. });
+        self.question = next;
+        Ok(next)
+    }
+}
+
+fn taken(number: u32) -> Result<(), Refused> {
+    match number {
+        0 => Ok(()),
+        abi::WRONG => Err(Refused::Wrong),
+        abi::SHORT => Err(Refused::Short),
+        _ => Err(Refused::Unknown),
+    }
+}
+
+fn done(good: bool) -> Answer<'static> {
+    if good {
+        Answer::Done
+    } else {
+        Answer::Failed
+    }
+}
+
+fn resource<'a>(bus: &mut impl Bus, bar: u8, list: &'a mut [u8]) -> Answer<'a> {
+    match bus.resource(bar, list) {
+        Some(n) => Answer::List(&list[..n.min(list.len())]),
+        None => Answer::Failed,
+    }
+}
