@@ -36,7 +36,8 @@ use Rattle.poll.specs.declared.Poll.{Poll}
 use Rattle.poll.specs.declared.Poll.the-variants as p
 use Rattle.poll.specs.declared.Onward.{Onward}
 use Rattle.poll.specs.declared.Onward.the-variants as o
-use Rattle.linkage.specs.Calls.{after, answerKnown, answered, onwardBy, answer}
+use Rattle.turns.specs.Turns.{after, answerKnown, answered}
+use Rattle.linkage.specs.Calls.{onwardBy, answer}
 
 -- the number of a case
 abbrev tag : Onward → ℕ
