@@ -62,7 +62,13 @@ fn failed_words(why: Refusal, closing: Closing) -> [u64; 5]
     ensures { λ r. ⌜ r ≡ outcomeWords (Failed why closing) ⌝ }
 {
     let v = values(why);
-    [3, words::wide32(why.number()), v[0], v[1], end_word(closing)]
+    [
+        3,
+        words::wide32(why.number()),
+        v[0],
+        v[1],
+        end_word(closing),
+    ]
 }
 
 // What has become of a session: its kind, the refusal's number and its two values, and how the closing went.
@@ -156,7 +162,12 @@ fn put_layout(out: &mut [u8], n: Info)
     let laid = layout::profile(cap);
     let layout = laid.layout;
     let rows = layout.rows;
-    let w = [ports(n), layout.total, layout::base_sqpn(cap), layout::first_free_mtt(cap)];
+    let w = [
+        ports(n),
+        layout.total,
+        layout::base_sqpn(cap),
+        layout::first_free_mtt(cap),
+    ];
     words::store(out, 74, &w);
     put_tables(out, rows);
 }

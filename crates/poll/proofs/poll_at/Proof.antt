@@ -4,9 +4,9 @@ use Rattle.poll.proofs.poll_at.Tie as tie
 
 returns : tie.Need-returns
 returns c = simp (
-    c .before .before .load .ensures,
-    c .poll-from .ensures,
-  )
+  c .before .before .load .ensures,
+  c .poll-from .ensures,
+)
 
 pub poll-at-spec : {M : Type 1} → statement M
 poll-at-spec =

@@ -27,9 +27,9 @@ returns c = simp (ne-eqb _ _ (c .if1 .taken))
 
 returns-2 : tie.Need-returns-2
 returns-2 c = simp (
-    eq-eqb _ _ (c .before .if1 .left),
-    lt-leb _ _ (c .if2 .taken),
-  )
+  eq-eqb _ _ (c .before .if1 .left),
+  lt-leb _ _ (c .if2 .taken),
+)
 
 returns-3 : tie.Need-returns-3
 returns-3 c =
@@ -38,21 +38,21 @@ returns-3 c =
 
 returns-4 : tie.Need-returns-4
 returns-4 c = simp (
-    eq-eqb _ _ (c .before .before .before .before .if1 .left),
-    le-leb _ _ (c .before .before .before .if2 .left),
-    ne-eqb _ _ (c .before .before .if3 .left),
-    eq-eqb _ _ (c .before .if4 .taken),
-    c .narrow322 .ensures,
-    narrow _ (c .before .before .before .if2 .left),
-  )
+  eq-eqb _ _ (c .before .before .before .before .if1 .left),
+  le-leb _ _ (c .before .before .before .if2 .left),
+  ne-eqb _ _ (c .before .before .if3 .left),
+  eq-eqb _ _ (c .before .if4 .taken),
+  c .narrow322 .ensures,
+  narrow _ (c .before .before .before .if2 .left),
+)
 
 returns-5 : tie.Need-returns-5
 returns-5 c = simp (
-    eq-eqb _ _ (c .before .before .before .if1 .left),
-    le-leb _ _ (c .before .before .if2 .left),
-    ne-eqb _ _ (c .before .if3 .left),
-    ne-eqb _ _ (c .if4 .left),
-  )
+  eq-eqb _ _ (c .before .before .before .if1 .left),
+  le-leb _ _ (c .before .before .if2 .left),
+  ne-eqb _ _ (c .before .if3 .left),
+  ne-eqb _ _ (c .if4 .left),
+)
 
 pub poll-from-spec : {M : Type 1} → statement M
 poll-from-spec =

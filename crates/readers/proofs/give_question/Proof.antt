@@ -12,13 +12,16 @@ use Rattle.readers.proofs.give_question.Tie as tie
 
 returns : tie.Need-returns
 unfolding questionKnown
-returns c = (simp (
+returns c = (
+  simp (
     lt-ltb _ _ (c .if1 .taken),
     lt-leb _ _ (c .if1 .taken),
-  ), simp (
+  ),
+  simp (
     lt-ltb _ _ (c .if1 .taken),
     lt-leb _ _ (c .if1 .taken),
-  ))
+  ),
+)
 
 returns-2 : tie.Need-returns-2
 unfolding questionKnown
@@ -26,9 +29,10 @@ returns-2 c =
     let p = c .before .before .before .before .before .before .before .before .before .args in
     let h = c .before .before .before .before .before .before .before .if1 .left in
     let ws = questionWords (asksOf (p .s)) in
-    let g = gives 4 (p .out .now) ws h in
-    (ap (λ (r : Read). r .code) g,
-    stored (p .out .now) 0 4 (c .before .before .store .ensures) (c .before .before .before .before .before .question-words .ensures ∙ ap questionWords (c .before .before .before .before .before .before .asks .ensures)) (question-length (asksOf (p .s))) h ∙ ap (λ (r : Read). r .out) g)
+    let g = gives 4 (p .out .now) ws h in (
+      ap (λ (r : Read). r .code) g,
+      stored (p .out .now) 0 4 (c .before .before .store .ensures) (c .before .before .before .before .before .question-words .ensures ∙ ap questionWords (c .before .before .before .before .before .before .asks .ensures)) (question-length (asksOf (p .s))) h ∙ ap (λ (r : Read). r .out) g,
+    )
 
 pub give-question-spec : {M : Type 1} → statement M
 give-question-spec =

@@ -12,13 +12,16 @@ use Rattle.readers.proofs.give_result.Tie as tie
 
 returns : tie.Need-returns
 unfolding resultKnown
-returns c = (simp (
+returns c = (
+  simp (
     lt-ltb _ _ (c .if1 .taken),
     lt-leb _ _ (c .if1 .taken),
-  ), simp (
+  ),
+  simp (
     lt-ltb _ _ (c .if1 .taken),
     lt-leb _ _ (c .if1 .taken),
-  ))
+  ),
+)
 
 returns-2 : tie.Need-returns-2
 unfolding resultKnown
@@ -26,9 +29,10 @@ returns-2 c =
     let p = c .before .before .before .before .before .before .before .before .before .args in
     let h = c .before .before .before .before .before .before .before .if1 .left in
     let ws = outcomeWords (outcomeOf (p .s)) in
-    let g = gives 5 (p .out .now) ws h in
-    (ap (λ (r : Read). r .code) g,
-    stored (p .out .now) 0 5 (c .before .before .store .ensures) (c .before .before .before .before .before .outcome-words .ensures ∙ ap outcomeWords (c .before .before .before .before .before .before .result .ensures)) (outcome-length (outcomeOf (p .s))) h ∙ ap (λ (r : Read). r .out) g)
+    let g = gives 5 (p .out .now) ws h in (
+      ap (λ (r : Read). r .code) g,
+      stored (p .out .now) 0 5 (c .before .before .store .ensures) (c .before .before .before .before .before .outcome-words .ensures ∙ ap outcomeWords (c .before .before .before .before .before .before .result .ensures)) (outcome-length (outcomeOf (p .s))) h ∙ ap (λ (r : Read). r .out) g,
+    )
 
 pub give-result-spec : {M : Type 1} → statement M
 give-result-spec =

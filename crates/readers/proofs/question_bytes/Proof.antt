@@ -5,43 +5,52 @@ use Rattle.readers.proofs.question_bytes.Tie as tie
 
 returns : tie.Need-returns
 unfolding question
-returns c = (simp (
+returns c = (
+  simp (
     ← (c .before .before .before .before .before .before .before .decode .ensures),
     c .before .before .before .before .before .match .keys1,
     c .before .before .before .before .enum-told .given .1,
     c .before .before .give-question .ensures .0,
     c .before .before .give-question .ensures .1,
-  ), simp (
+  ),
+  simp (
     ← (c .before .before .before .before .before .before .before .decode .ensures),
     c .before .before .before .before .before .match .keys1,
     c .before .before .before .before .enum-told .given .1,
     c .before .before .give-question .ensures .0,
     c .before .before .give-question .ensures .1,
-  ))
+  ),
+)
 
 returns-2 : tie.Need-returns-2
 unfolding question
-returns-2 c = (simp (
+returns-2 c = (
+  simp (
     ← (c .before .before .before .decode .ensures),
     c .before .match .keys2,
     c .enum-told2 .given .1,
-  ), simp (
+  ),
+  simp (
     ← (c .before .before .before .decode .ensures),
     c .before .match .keys2,
     c .enum-told2 .given .1,
-  ))
+  ),
+)
 
 returns-3 : tie.Need-returns-3
 unfolding question
-returns-3 c = (simp (
+returns-3 c = (
+  simp (
     ← (c .before .before .before .decode .ensures),
     c .before .match .keys3,
     c .enum-told3 .given .1,
-  ), simp (
+  ),
+  simp (
     ← (c .before .before .before .decode .ensures),
     c .before .match .keys3,
     c .enum-told3 .given .1,
-  ))
+  ),
+)
 
 pub question-bytes-spec : {M : Type 1} → statement M
 question-bytes-spec =

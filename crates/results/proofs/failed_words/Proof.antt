@@ -4,11 +4,11 @@ use Rattle.results.proofs.failed_words.Tie as tie
 
 returns : tie.Need-returns
 returns c = simp (
-    c .before .before .before .values .ensures,
-    c .before .before .number .ensures,
-    c .before .wide32 .ensures,
-    c .end-word .ensures,
-  )
+  c .before .before .before .values .ensures,
+  c .before .before .number .ensures,
+  c .before .wide32 .ensures,
+  c .end-word .ensures,
+)
 
 pub failed-words-spec : {M : Type 1} → statement M
 failed-words-spec =

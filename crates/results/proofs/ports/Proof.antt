@@ -4,9 +4,9 @@ use Rattle.results.proofs.ports.Tie as tie
 
 returns : tie.Need-returns
 returns c = simp (
-    c .before .if1 .taken,
-    c .wide8 .ensures,
-  )
+  c .before .if1 .taken,
+  c .wide8 .ensures,
+)
 
 returns-2 : tie.Need-returns-2
 returns-2 c = simp (c .if1 .left)

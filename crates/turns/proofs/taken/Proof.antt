@@ -3,40 +3,52 @@ use Rattle.turns.proofs.taken.Statement.{statement}
 use Rattle.turns.proofs.taken.Tie as tie
 
 returns : tie.Need-returns
-returns c = (simp (
+returns c = (
+  simp (
     c .before .before .before .before .before .before .before .before .before .match .keys1,
     c .before .before .before .before .before .before .before .before .enum-told .given .1,
     c .before .before .before .before .before .before .encode .ensures .0,
     c .before .before .before .before .before .before .encode .ensures .1,
     c .before .before .put-turn .ensures,
-  ), (simp (
-    c .before .before .before .before .before .before .before .before .before .match .keys1,
-    c .before .before .before .before .before .before .before .before .enum-told .given .1,
-    c .before .before .before .before .before .before .encode .ensures .0,
-    c .before .before .before .before .before .before .encode .ensures .1,
-    c .before .before .put-turn .ensures,
-  ), simp (
-    c .before .before .before .before .before .before .before .before .before .match .keys1,
-    c .before .before .before .before .before .before .before .before .enum-told .given .1,
-    c .before .before .before .before .before .before .encode .ensures .0,
-    c .before .before .before .before .before .before .encode .ensures .1,
-    c .before .before .put-turn .ensures,
-  )))
+  ),
+  (
+    simp (
+      c .before .before .before .before .before .before .before .before .before .match .keys1,
+      c .before .before .before .before .before .before .before .before .enum-told .given .1,
+      c .before .before .before .before .before .before .encode .ensures .0,
+      c .before .before .before .before .before .before .encode .ensures .1,
+      c .before .before .put-turn .ensures,
+    ),
+    simp (
+      c .before .before .before .before .before .before .before .before .before .match .keys1,
+      c .before .before .before .before .before .before .before .before .enum-told .given .1,
+      c .before .before .before .before .before .before .encode .ensures .0,
+      c .before .before .before .before .before .before .encode .ensures .1,
+      c .before .before .put-turn .ensures,
+    ),
+  ),
+)
 
 returns-2 : tie.Need-returns-2
-returns-2 c = (simp (
+returns-2 c = (
+  simp (
     c .before .before .before .match .keys2,
     c .before .before .refusal .given .1,
     c .number .ensures,
-  ), (simp (
-    c .before .before .before .match .keys2,
-    c .before .before .refusal .given .1,
-    c .number .ensures,
-  ), simp (
-    c .before .before .before .match .keys2,
-    c .before .before .refusal .given .1,
-    c .number .ensures,
-  )))
+  ),
+  (
+    simp (
+      c .before .before .before .match .keys2,
+      c .before .before .refusal .given .1,
+      c .number .ensures,
+    ),
+    simp (
+      c .before .before .before .match .keys2,
+      c .before .before .refusal .given .1,
+      c .number .ensures,
+    ),
+  ),
+)
 
 pub taken-spec : {M : Type 1} → statement M
 taken-spec =

@@ -5,15 +5,15 @@ use Rattle.words_calls.proofs.answer_from.Tie as tie
 
 returns : tie.Need-returns
 returns c = simp (
-    c .before .match .keys1,
-    c .word-from .ensures,
-  )
+  c .before .match .keys1,
+  c .word-from .ensures,
+)
 
 returns-2 : tie.Need-returns-2
 returns-2 c = simp (
-    c .before .match .keys2,
-    c .dword-from .ensures,
-  )
+  c .before .match .keys2,
+  c .dword-from .ensures,
+)
 
 returns-3 : tie.Need-returns-3
 returns-3 c = simp (c .match .keys3)
@@ -35,15 +35,15 @@ returns-8 c = simp (c .match .keys8)
 
 returns-9 : tie.Need-returns-9
 returns-9 c = simp (
-    ne-eqb _ _ (c .match .rest .0 .0 .0 .0 .0 .0 .0 .1),
-    ne-eqb _ _ (c .match .rest .0 .0 .0 .0 .0 .0 .1),
-    ne-eqb _ _ (c .match .rest .0 .0 .0 .0 .0 .1),
-    ne-eqb _ _ (c .match .rest .0 .0 .0 .0 .1),
-    ne-eqb _ _ (c .match .rest .0 .0 .0 .1),
-    ne-eqb _ _ (c .match .rest .0 .0 .1),
-    ne-eqb _ _ (c .match .rest .0 .1),
-    ne-eqb _ _ (c .match .rest .1),
-  )
+  ne-eqb _ _ (c .match .rest .0 .0 .0 .0 .0 .0 .0 .1),
+  ne-eqb _ _ (c .match .rest .0 .0 .0 .0 .0 .0 .1),
+  ne-eqb _ _ (c .match .rest .0 .0 .0 .0 .0 .1),
+  ne-eqb _ _ (c .match .rest .0 .0 .0 .0 .1),
+  ne-eqb _ _ (c .match .rest .0 .0 .0 .1),
+  ne-eqb _ _ (c .match .rest .0 .0 .1),
+  ne-eqb _ _ (c .match .rest .0 .1),
+  ne-eqb _ _ (c .match .rest .1),
+)
 
 pub answer-from-spec : {M : Type 1} → statement M
 answer-from-spec =

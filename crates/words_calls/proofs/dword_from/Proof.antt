@@ -6,17 +6,17 @@ use Rattle.words_calls.proofs.dword_from.Tie as tie
 
 returns : tie.Need-returns
 returns c = simp (
-    lt-ltb _ _ (c .before .if1 .taken),
-    lt-leb _ _ (c .before .if1 .taken),
-    c .narrow32 .ensures,
-    mod-eq-of-lt (c .before .if1 .taken),
-  )
+  lt-ltb _ _ (c .before .if1 .taken),
+  lt-leb _ _ (c .before .if1 .taken),
+  c .narrow32 .ensures,
+  mod-eq-of-lt (c .before .if1 .taken),
+)
 
 returns-2 : tie.Need-returns-2
 returns-2 c = simp (
-    le-leb _ _ (c .if1 .left),
-    le-ltb _ _ (c .if1 .left),
-  )
+  le-leb _ _ (c .if1 .left),
+  le-ltb _ _ (c .if1 .left),
+)
 
 pub dword-from-spec : {M : Type 1} → statement M
 dword-from-spec =

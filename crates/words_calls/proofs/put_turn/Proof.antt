@@ -4,10 +4,10 @@ use Rattle.words_calls.proofs.put_turn.Tie as tie
 
 returns : tie.Need-returns
 returns c = simp (
-    c .before .before .before .before .before .before .question-words .ensures,
-    c .before .before .before .before .before .long .ensures,
-    c .before .before .store .ensures,
-  )
+  c .before .before .before .before .before .before .question-words .ensures,
+  c .before .before .before .before .before .long .ensures,
+  c .before .before .store .ensures,
+)
 
 pub put-turn-spec : {M : Type 1} → statement M
 put-turn-spec =
