@@ -1,2 +1,4 @@
 pub mod Sequence
 pub mod Command
+pub mod Still
+pub mod Reset
