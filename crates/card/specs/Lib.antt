@@ -1,2 +1,3 @@
 pub mod Card
 pub mod Safe
+pub mod Owns
