@@ -1,2 +1,3 @@
 pub mod Courses
 pub mod Closing
+pub mod Blocks
