@@ -1,3 +1,4 @@
 pub mod Courses
 pub mod Closing
 pub mod Blocks
+pub mod Books

@@ -1,1 +1,2 @@
 pub mod SafeCourse
+pub mod Ranges
