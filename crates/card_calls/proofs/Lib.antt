@@ -2,3 +2,5 @@ pub mod Courses
 pub mod Closing
 pub mod Blocks
 pub mod Books
+pub mod Commands
+pub mod Areas
