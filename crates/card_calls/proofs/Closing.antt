@@ -142,6 +142,23 @@ fits-undo u m t e = record {
 fits-imm : (op n x : ℕ) (m : Mail) → op < 0x1000 → (IsMap (kind op) → ⊥) → n < 2 ^ 32 → x < 2 ^ 64 → Fits (immOf op 0 n x) m
 fits-imm op n x m a never b d = record { op = a; opMod = omega arith; inMod = b; inParam = d; outParam = omega arith; addressed = λ z. absurd (never z) }
 
+-- a closing that gives back is not one that keeps
+pub clean-differs : c.Clean ≡ c.Kept → ⊥
+clean-differs e = subst (λ (x : Closing). IsClean x) e tt
+  where
+    IsClean : Closing → Type 0
+    IsClean c.Clean = Unit {0}
+    IsClean c.Reset = ⊥
+    IsClean c.Kept = ⊥
+
+reset-differs : c.Reset ≡ c.Kept → ⊥
+reset-differs e = subst (λ (x : Closing). IsReset x) e tt
+  where
+    IsReset : Closing → Type 0
+    IsReset c.Clean = ⊥
+    IsReset c.Reset = Unit {0}
+    IsReset c.Kept = ⊥
+
 -- THE END OF A CLOSING: `back` and `kept` are what is to hold when all was given back, and when all was kept
 module _ (n : Info) (f : Failure) (P : World → Rest → Type 1) where
   -- the owner is released and the attributes are restored; what is known of the card is stable, and does not speak of registers
@@ -180,22 +197,6 @@ module _ (n : Info) (f : Failure) (P : World → Rest → Type 1) where
 
     module _ (l : Host) (back : (x : Closing) (b : Books) (v : World) → (x ≡ c.Kept → ⊥) → Owns base [] (v .host) → Quiet Empty (v .card) → P v (atRest g.Ended (emptied b) n f x))
         (kept : (b : Books) (v : World) → Owns base (lendsFrom b 0) (v .host) → v .host ≡ l → P v (atRest g.Ended b n f c.Kept)) where
-      clean-differs : c.Clean ≡ c.Kept → ⊥
-      clean-differs e = subst (λ (x : Closing). IsClean x) e tt
-        where
-          IsClean : Closing → Type 0
-          IsClean c.Clean = Unit {0}
-          IsClean c.Reset = ⊥
-          IsClean c.Kept = ⊥
-
-      reset-differs : c.Reset ≡ c.Kept → ⊥
-      reset-differs e = subst (λ (x : Closing). IsReset x) e tt
-        where
-          IsReset : Closing → Type 0
-          IsReset c.Clean = ⊥
-          IsReset c.Reset = Unit {0}
-          IsReset c.Kept = ⊥
-
       safe-giving : (x : Closing) (b : Books) (h : Here) (w : World) → (x ≡ c.Kept → ⊥) → Fair h → Owns base (lendsFrom b 0) (w .host) → Quiet Empty (w .card) → SafeCourse w (giving n f x b h) P
       unfolding giving
       safe-giving x b h w d q o e = safe-all-freed (lendsFrom b 0) x (emptied b) (λ v y z. back x b v d y z) h w q o e

@@ -4,3 +4,4 @@ pub mod Blocks
 pub mod Books
 pub mod Commands
 pub mod Areas
+pub mod Opening
