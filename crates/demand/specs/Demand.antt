@@ -34,13 +34,13 @@ use Rattle.fw.specs.Calls.{asksOf}
 use Rattle.card.specs.Card.{Card, Hold, Host, World, MayUse, Allowed}
 use Rattle.card.specs.Owns.{Owns, outs, backs}
 use Rattle.card_calls.specs.Ranges.{InRanges, AsLaid}
-use Rattle.demand.specs.Events.{Call, open, close, answer, Event, turn, asked, Stand, Step}
+use Rattle.demand.specs.Events.{Call, callOpen, callClose, callAnswer, Event, turn, asked, Stand, Step}
 
 -- (a) The question that an answer answers was one that a session may ask: see `Allowed`.
 abbrev pub QuestionBy : Failure → Call → Session → (inbox : List ℕ) → World → Type 0
-QuestionBy f.Nothing open s i w = Unit {0}
-QuestionBy f.Nothing close s i w = Unit {0}
-QuestionBy f.Nothing (answer a r) s i w = (y : Ask) → asked (asksOf s) i ≡ some y → Allowed i w y
+QuestionBy f.Nothing callOpen s i w = Unit {0}
+QuestionBy f.Nothing callClose s i w = Unit {0}
+QuestionBy f.Nothing (callAnswer a r) s i w = (y : Ask) → asked (asksOf s) i ≡ some y → Allowed i w y
 QuestionBy (f.By z) c s i w = Unit {0}
 
 abbrev pub QuestionKept : Stand → Event → Type 0

@@ -25,9 +25,9 @@ use Rattle.card_calls.specs.SafeCourse.{Lendable}
 
 -- THE CALLS
 pub data Call : Type 0 where
-  open : Call
-  close : Call
-  answer : Answer → (resource : List ℕ) → Call
+  callOpen : Call
+  callClose : Call
+  callAnswer : Answer → (resource : List ℕ) → Call
 
 -- a call with what is lent to it
 pub record Event : Type 0 where
@@ -38,17 +38,17 @@ pub record Event : Type 0 where
 
 -- what a call gives, and the inbox that it leaves
 abbrev pub turnBy : Call → Session → (inbox outbox : List ℕ) → Top → Turn
-turnBy open s i o u = openOf s i o u
-turnBy close s i o u = closeOf s i o u
-turnBy (answer a r) s i o u = answerOf s a r i o u
+turnBy callOpen s i o u = openOf s i o u
+turnBy callClose s i o u = closeOf s i o u
+turnBy (callAnswer a r) s i o u = answerOf s a r i o u
 
 abbrev pub turn : Session → Event → Turn
 turn s e = turnBy (e .call) s (e .inbox) (e .outbox) (e .undo)
 
 abbrev pub inboxBy : Call → Session → (inbox outbox : List ℕ) → Top → List ℕ
-inboxBy open s i o u = i
-inboxBy close s i o u = i
-inboxBy (answer a r) s i o u = answerIn s a r i o u
+inboxBy callOpen s i o u = i
+inboxBy callClose s i o u = i
+inboxBy (callAnswer a r) s i o u = answerIn s a r i o u
 
 abbrev pub inboxAfter : Session → Event → List ℕ
 inboxAfter s e = inboxBy (e .call) s (e .inbox) (e .outbox) (e .undo)
@@ -87,9 +87,9 @@ abbrev pub Answers : Session → (inbox : List ℕ) → Answer → (resource : L
 Answers s i a r w v = (y : Ask) × (z : Reply y) × (asked (asksOf s) i ≡ some y) × (replyOf y a r ≡ some z) × WorldStep w y z v
 
 abbrev pub HappensBy : Call → Session → (inbox : List ℕ) → World → World → Type 1
-HappensBy open s i w v = Rests w v
-HappensBy close s i w v = Rests w v
-HappensBy (answer a r) s i w v = Answers s i a r w v
+HappensBy callOpen s i w v = Rests w v
+HappensBy callClose s i w v = Rests w v
+HappensBy (callAnswer a r) s i w v = Answers s i a r w v
 
 -- "an answer refused with 20 or 21 neither reports nor hands over anything"
 abbrev pub Happens : Failure → Call → Session → (inbox : List ℕ) → World → World → Type 1
