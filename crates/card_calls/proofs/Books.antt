@@ -162,7 +162,7 @@ in-table f i zero k h = absurd (let q : ⊥ = omega (arith, h) in q)
 in-table f i (suc n) zero h = inl (ap f (let e : i + 0 ≡ i = omega arith in e))
 in-table f i (suc n) (suc k) h = inr (subst (λ (m : ℕ). In (f m) (table f (suc i) n)) (let e : suc i + k ≡ i + suc k = omega arith in e) (in-table f (suc i) n k (omega (arith, h))))
 
-range-meets : (e : Icm) (x d : ℕ) → OnRange e x d → Meets (spotOf (bufferOf e)) d
+pub range-meets : (e : Icm) (x d : ℕ) → OnRange e x d → Meets (spotOf (bufferOf e)) d
 range-meets e x d (j, l, q, r) = (omega (arith, r), omega (arith, r, l))
 
 slot-in : (s : Slot) (d : ℕ) → OnSlot s d → (b : Buffer) × In b (inHold s) × Meets (spotOf b) d

@@ -1,2 +1,4 @@
 pub mod Plans
 pub mod Settle
+pub mod Questions
+pub mod OnePage

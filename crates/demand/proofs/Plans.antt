@@ -39,8 +39,18 @@ use Rattle.tasks.specs.declared.PartingStep.{PartingStep}
 use Rattle.tasks.specs.declared.PartingStep.the-variants as ps
 use Rattle.tasks.specs.declared.Attributes.{Attributes}
 use Rattle.tasks.specs.declared.Attributes.the-variants as at
+use Rattle.tasks.specs.Attributes.{attrStepOf}
+use Rattle.tasks.specs.declared.AttrStep.{AttrStep}
+use Rattle.tasks.specs.declared.AttrStep.the-variants as ats
+use Rattle.tasks.specs.Claim.{claimStepOf}
+use Rattle.tasks.specs.declared.ClaimStep.{ClaimStep}
+use Rattle.tasks.specs.declared.ClaimStep.the-variants as ls
 use Rattle.tasks.specs.declared.Claimed.{Claimed}
 use Rattle.tasks.specs.declared.Claimed.the-variants as l
+use Rattle.uar.specs.Steps.{barStepOf}
+use Rattle.uar.specs.declared.FindBar.{FindBar}
+use Rattle.uar.specs.declared.BarEnding.{BarEnding}
+use Rattle.uar.specs.declared.BarEnding.the-variants as bg
 use Rattle.uar.specs.declared.Found.{Found}
 use Rattle.uar.specs.declared.Found.the-variants as u
 use Rattle.reply.specs.declared.DevCap.{DevCap}
@@ -51,7 +61,7 @@ use Rattle.reply.specs.Capability.{capabilityOf}
 use Rattle.reply.specs.Replies.{queryFwOf, fwHeld, queryPortOf, queryFuncOf}
 use Rattle.layout.specs.Counts.{profileOf}
 use Rattle.layout.specs.declared.Layout.{Layout}
-use Rattle.work.specs.Work.{working, workStepOf, cmdWork, partWork, resetOn}
+use Rattle.work.specs.Work.{workStepOf, taskStep, attrWork, claimWork, barOn, lookStep, cmdWork, partWork, resetOn}
 use Rattle.work.specs.declared.Task.{Task}
 use Rattle.work.specs.declared.Task.the-variants as t
 use Rattle.work.specs.declared.Work.{Work}
@@ -434,7 +444,7 @@ lists-boot x d i f z y b.Func = tt
 lists-boot x d i f z y b.Adapter = tt
 
 -- one more fact that goes with it, E: it stands where it stood
-abbrev Both : Type 0 → Session → Type 0
+abbrev pub Both : Type 0 → Session → Type 0
 Both E s = Suited s × HeldAt (s .stage) (s .closing) E
 
 lists-held : (E : Type 0) (x : Work) (d : Books) (i : Info) (f : Failure) (z : Closing) (y : Listed) (st : Boot) → HeldAt (listsBoot (session (g.Boot st) x d i f z) y st .stage) (listsBoot (session (g.Boot st) x d i f z) y st .closing) E
@@ -470,15 +480,146 @@ filled-both E (w.List v) s i h =
 filled-both E w.ModStat s i h = h
 filled-both E w.InitHca s i h = h
 
--- A STEP. Where the task goes on it is of the same kind
-cmd-going : (v : Work) (x : CmdStep) → cmdWork v x .ending ≡ e.Going → NoHost (cmdWork v x .work .task)
-cmd-going v (cs.More x) q = tt
-cmd-going v (cs.Ended x) q = tt
+-- A STEP. A task that asks nothing of the host goes on as one
+attr-going : (v : Work) (x : AttrStep) → NoHost (attrWork v x .work .task)
+attr-going v (ats.More x) = tt
+attr-going v (ats.Ended x) = tt
+
+claim-going : (v : Work) (x : ClaimStep) → NoHost (claimWork v x .work .task)
+claim-going v (ls.More x) = tt
+claim-going v (ls.Ended x) = tt
+
+reset-going : (v : Work) (x : Reset) (y : ResetEnding) → NoHost (resetOn v x y .work .task)
+reset-going v x rg.Going = tt
+reset-going v x (rg.Ended z) = tt
+
+bar-going : (v : Work) (x : FindBar) (y : BarEnding) → NoHost (barOn v x y .work .task)
+bar-going v x bg.Going = tt
+bar-going v x (bg.Ended z) = tt
+
+look-going : (v : Work) (x : DwordReply) → NoHost (lookStep v x .work .task)
+look-going v (dw.Got x) = tt
+look-going v dw.Failed = tt
+look-going v dw.Wrong = tt
+
+cmd-going : (v : Work) (x : CmdStep) → NoHost (cmdWork v x .work .task)
+cmd-going v (cs.More x) = tt
+cmd-going v (cs.Ended x) = tt
 
 part-going : (v : Work) (x : PartingStep) → NoHost (partWork v x .work .task)
 part-going v (ps.More x) = tt
 part-going v ps.Ended = tt
 
-reset-going : (v : Work) (x : Reset) (y : ResetEnding) → NoHost (resetOn v x y .work .task)
-reset-going v x rg.Going = tt
-reset-going v x (rg.Ended z) = tt
+task-going : (v : Work) (r : Answer) (bytes : List ℕ) (x : Task) → NoHost x → NoHost (taskStep v r bytes x .work .task)
+task-going v r bytes t.Rest h = tt
+task-going v r bytes (t.Attr x) h = attr-going v (attrStepOf x r)
+task-going v r bytes (t.Claim x) h = claim-going v (claimStepOf x r)
+task-going v r bytes t.Reset h = reset-going v (resetStepOf (v .reset) r .reset) (resetStepOf (v .reset) r .ending)
+task-going v r bytes t.Bar h = bar-going v (barStepOf (v .find) r bytes .find) (barStepOf (v .find) r bytes .ending)
+task-going v r bytes (t.Make x) h = absurd h
+task-going v r bytes (t.Free x) h = absurd h
+task-going v r bytes t.Look h = look-going v (dwordOf r)
+task-going v r bytes (t.Cmd x) h = cmd-going v (cmdStepOf x r)
+task-going v r bytes (t.Part x) h = part-going v (partStepOf x r)
+
+fit-going : (y : Close) (z : Closing) (x x′ : Task) → (NoHost x → NoHost x′) → FitClose y z x → FitClose y z x′
+fit-going (k.Undo i) z x x′ f h = f h
+fit-going k.CloseHca z x x′ f h = f h
+fit-going (k.Unmap i) z x x′ f h = f h
+fit-going k.UnmapAux z x x′ f h = f h
+fit-going k.UnmapFa z x x′ f h = f h
+fit-going k.Reset z x x′ f h = f h
+fit-going (k.FreeLent i) z x x′ f h = h
+fit-going (k.FreeIcm i) z x x′ f h = h
+fit-going k.FreeAux z x x′ f h = h
+fit-going k.FreeFa z x x′ f h = h
+fit-going k.FreeInbox z x x′ f h = h
+fit-going k.FreeOutbox z x x′ f h = h
+fit-going k.Release z x x′ f h = f h
+fit-going k.Restore z x x′ f h = f h
+
+-- what is known of E before a step: in an opening it is so, for its closing would begin now
+abbrev pub Known : Stage → Closing → Type 0 → Type 0
+Known g.Fresh z E = ⊥
+Known g.Open z E = ⊥
+Known g.Ended z E = ⊥
+Known (g.Prepare y) z E = E
+Known (g.Boot y) z E = E
+Known (g.Close y) z E = HeldClose y z E
+
+module _ (E : Type 0) (d : Books) (j : Info) (f : Failure) (z : Closing) (v : Work) (r : Answer) (bytes i out : List ℕ) (top : Top) where
+  abbrev was : Stage → Session
+  was st = session st v d j f z
+
+  ended : (st : Stage) (x : Work) (y : End) → Frees E (planOf (withWork (was st) x) y out top) → Both E (begunOf (planOf (withWork (was st) x) y out top) i .session)
+  ended st x y h = filled-both E (planOf (withWork (was st) x) y out top .fill) (planOf (withWork (was st) x) y out top .session) i h
+
+  by-prepare : (st : Prepare) (x : Work) (n : Ending) → E → Both E (stepTurn (was (g.Prepare st)) r x i out top n .session)
+  unfolding preparePlan
+  by-prepare st x e.Going h = (tt, tt)
+  by-prepare st x (e.Ended y) h =
+      ended (g.Prepare st) x y (prepare-suited (withWork (was (g.Prepare st)) x) y top st, held-in (preparePlanAt (withWork (was (g.Prepare st)) x) y top st) E h)
+
+  by-boot : (st : Boot) (x : Work) (n : Ending) → E → Both E (stepTurn (was (g.Boot st)) r x i out top n .session)
+  unfolding bootPlan
+  by-boot st x e.Going h = (tt, tt)
+  by-boot st x (e.Ended y) h =
+      ended (g.Boot st) x y (boot-suited (withWork (was (g.Boot st)) x) y out top st, held-in (bootPlanAt (withWork (was (g.Boot st)) x) y out top st) E h)
+
+  by-close : (st : Close) (x : Work) (n : Ending) → FitClose st z (v .task) → (NoHost (v .task) → NoHost (x .task)) → HeldClose st z E → Both E (stepTurn (was (g.Close st)) r x i out top n .session)
+  unfolding closePlan
+  by-close st x e.Going q m h = (fit-going st z (v .task) (x .task) m q, h)
+  by-close st x (e.Ended y) q m h = ended (g.Close st) x y (close-lawful E (withWork (was (g.Close st)) x) y top st (v .task) q h)
+
+  by-stage : (st : Stage) → Fit st z (v .task) → Known st z E → Both E (stepOf (was st) r bytes i out top .session)
+  unfolding stepOf
+  by-stage g.Fresh q h = absurd h
+  by-stage g.Open q h = absurd h
+  by-stage g.Ended q h = absurd h
+  by-stage (g.Prepare st) q h = by-prepare st (workStepOf v r bytes .work) (workStepOf v r bytes .ending) h
+  by-stage (g.Boot st) q h = by-boot st (workStepOf v r bytes .work) (workStepOf v r bytes .ending) h
+  by-stage (g.Close st) q h = by-close st (workStepOf v r bytes .work) (workStepOf v r bytes .ending) q (λ m. task-going v r bytes (v .task) m) h
+
+pub step-both : (E : Type 0) (s : Session) (r : Answer) (bytes i out : List ℕ) (top : Top) → Suited s → Known (s .stage) (s .closing) E → Both E (stepOf s r bytes i out top .session)
+step-both E s r bytes i out top q h = by-stage E (s .books) (s .info) (s .failure) (s .closing) (s .work) r bytes i out top (s .stage) q h
+
+-- E becomes F: where nothing changes, and where the task asks nothing of the host
+pub held-map : (st : Stage) (z : Closing) (E F : Type 0) → (E → F) → HeldAt st z E → HeldAt st z F
+held-map g.Fresh z E F f h = tt
+held-map g.Open z E F f h = tt
+held-map g.Ended z E F f h = λ q. f (h q)
+held-map (g.Prepare y) z E F f h = tt
+held-map (g.Boot y) z E F f h = tt
+held-map (g.Close y) z E F f h = close-map y z E F f h
+  where
+    close-map : (y : Close) (z : Closing) (E F : Type 0) → (E → F) → HeldClose y z E → HeldClose y z F
+    close-map (k.Undo i) z E F f h = f h
+    close-map k.CloseHca z E F f h = f h
+    close-map (k.Unmap i) z E F f h = f h
+    close-map k.UnmapAux z E F f h = f h
+    close-map k.UnmapFa z E F f h = f h
+    close-map k.Reset z E F f h = f h
+    close-map (k.FreeLent i) z E F f h = tt
+    close-map (k.FreeIcm i) z E F f h = tt
+    close-map k.FreeAux z E F f h = tt
+    close-map k.FreeFa z E F f h = tt
+    close-map k.FreeInbox z E F f h = tt
+    close-map k.FreeOutbox z E F f h = tt
+    close-map k.Release z E F f h = λ q. f (h q)
+    close-map k.Restore z E F f h = λ q. f (h q)
+
+pub held-step : (y : Close) (z : Closing) (x : Task) (E F : Type 0) → (NoHost x → E → F) → FitClose y z x → HeldClose y z E → HeldClose y z F
+held-step (k.Undo i) z x E F f q h = f q h
+held-step k.CloseHca z x E F f q h = f q h
+held-step (k.Unmap i) z x E F f q h = f q h
+held-step k.UnmapAux z x E F f q h = f q h
+held-step k.UnmapFa z x E F f q h = f q h
+held-step k.Reset z x E F f q h = f q h
+held-step (k.FreeLent i) z x E F f q h = tt
+held-step (k.FreeIcm i) z x E F f q h = tt
+held-step k.FreeAux z x E F f q h = tt
+held-step k.FreeFa z x E F f q h = tt
+held-step k.FreeInbox z x E F f q h = tt
+held-step k.FreeOutbox z x E F f q h = tt
+held-step k.Release z x E F f q h = λ r. f q (h r)
+held-step k.Restore z x E F f q h = λ r. f q (h r)
