@@ -2,3 +2,4 @@ pub mod Plans
 pub mod Settle
 pub mod Questions
 pub mod OnePage
+pub mod Demand
