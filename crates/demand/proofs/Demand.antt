@@ -15,12 +15,15 @@ use Rattle.pci.specs.Machine.{Right}
 use Rattle.pci.specs.declared.Question.the-variants as q
 use Rattle.pci.specs.declared.Answer.{Answer}
 use Rattle.pci.specs.declared.Refusal.{Refusal}
-use Rattle.pci.specs.declared.Refusal.the-variants as x
-use Rattle.work.specs.Work.{isResting, taskAsks}
+use Rattle.pci.specs.declared.Refusal.the-variants as r
+use Rattle.work.specs.Work.{isResting, taskAsks, workStepOf}
+use Rattle.work.specs.declared.Work.{Work}
+use Rattle.work.specs.declared.Ending.{Ending}
+use Rattle.work.specs.declared.Ending.the-variants as e
 use Rattle.work.specs.declared.Task.{Task}
 use Rattle.work.specs.declared.Task.the-variants as t
 use Rattle.session.specs.Session.{fresh}
-use Rattle.session.specs.Course.{Course, ret, ask, Here, here, Lent, left, Rest, atRest, restOf}
+use Rattle.session.specs.Course.{Course, ret, ask, Here, here, Lent, Left, left, Rest, atRest, restOf}
 use Rattle.session.specs.declared.Top.{Top}
 use Rattle.session.specs.declared.Books.{Books}
 use Rattle.session.specs.declared.Info.{Info}
@@ -36,7 +39,7 @@ use Rattle.session.specs.declared.Session.{Session}
 use Rattle.closing.specs.Closing.{lendsFrom, emptied, stopping}
 use Rattle.opening.specs.Opening.{opening}
 use Rattle.opening.specs.Plan.{openPlan}
-use Rattle.fw.specs.Calls.{asksOf, isSession, isLent, isFresh, isOpen, openable, closable, answerable, inTime, begins, refusedOf, withoutFailure, closingOf, openOf, closeOf, answerOf, answerIn, stepOf, stepIn}
+use Rattle.fw.specs.Calls.{asksOf, isSession, isLent, isFresh, isOpen, openable, closable, answerable, inTime, begins, refusedOf, withoutFailure, closingOf, openOf, closeOf, answerOf, answerIn, stepTurn, stepOf, stepIn}
 use Rattle.fw.specs.Follows.{courseOf, courseAt, isRunning, hereAfter, Follows}
 use Rattle.fw.specs.declared.Turn.{Turn}
 use Rattle.fw.proofs.Landed.{counted}
@@ -174,6 +177,15 @@ open-stage (g.Close y) e = absurd (false≢true e)
 began-kept : (b : Bool) (was now k l : Host) → now ≡ pick b was l → l ≡ k → k ≡ was → l ≡ now
 began-kept true was now k l e h i = h ∙ i ∙ sym e
 began-kept false was now k l e h i = sym e
+
+-- a step that is taken refuses nothing
+turn-taken : (s : Session) (a : Answer) (w : Work) (i o : List ℕ) (u : Top) (n : Ending) → stepTurn s a w i o u n .refusal ≡ f.Nothing
+turn-taken s a w i o u e.Going = refl
+turn-taken s a w i o u (e.Ended z) = refl
+
+step-taken : (s : Session) (a : Answer) (r i o : List ℕ) (u : Top) → stepOf s a r i o u .refusal ≡ f.Nothing
+unfolding stepOf
+step-taken s a r i o u = turn-taken s a (workStepOf (s .work) a r .work) i o u (workStepOf (s .work) a r .ending)
 
 abbrev event : Call → List ℕ → List ℕ → Top → Event
 event a i o u = record { call = a; inbox = i; outbox = o; undo = u }
@@ -357,3 +369,178 @@ module _ (k : Host) (log : k .log ≡ []) (in-none : k .inbox ≡ none) (out-non
 
         was : Opened base (x .session .info) (x .session .books) (x .world)
         was = at-stage x g.Open stage refl i
+
+    -- AN ACCEPTED ANSWER
+    module _ (a : Answer) (res : List ℕ) where
+      abbrev h₁ : Here
+      h₁ = here n (i .there .outbox) (i .there .undo)
+
+      abbrev m : Lent
+      m = record { outbox = o; undo = u }
+
+      -- what is left of the course is safe, and the deals are balanced
+      abbrev Onward : World → Type 1
+      Onward v = SafeCourse v (courseOf (stepOf (x .session) a res n o u .session) (hereAfter (x .session) a res h₁ m)) (Post base k) × Balanced base (v .host)
+
+      by-course : (z : Course Rest) → Follows (x .session) h₁ z → SafeCourse (x .world) z (Post base k) → Lendable m → (v : World) (p : Ask) (r : Reply p) → asked (asksOf (x .session)) n ≡ some p
+          → replyOf p a res ≡ some r → WorldStep (x .world) p r v → Allowed n (x .world) p × Onward v
+      by-course (ret l r₁) fol s ok v p r e₁ e₂ st = absurd (nothing-asked (asksOf (x .session)) n p (fol .0) e₁)
+      by-course (ask q l d) fol s ok v p r e₁ e₂ st =
+          let al : Allowed n (x .world) q = subst (λ (z : Left). Allowed (z .inbox) (x .world) q) (fol .1) (s .0) in
+          let same : q ≡ p = Option·some-injective q p (sym (ap (λ z. asked z n) (fol .0) ∙ asked-shown q n (x .world) al) ∙ e₁) in
+          subst (λ (z : Ask). (r : Reply z) → replyOf z a res ≡ some r → WorldStep (x .world) z r v → Allowed n (x .world) z × Onward v) same
+          (λ r e st. (
+            al,
+            (
+              subst (λ (z : Course Rest). SafeCourse v z (Post base k))
+              (sym (subst (λ (z : Option (Reply q)). Right z (λ r. courseOf (stepOf (x .session) a res n o u .session) (hereAfter (x .session) a res h₁ m) ≡ d r m) (Unit {0})) e (fol .2 a res m)))
+              (s .1 r m v ok st),
+              step-balanced base q r n (x .world) v al st (i .balanced),
+            ),
+          )) r e₂ st
+
+      resting : (z : Task) → isResting z ≡ true → IsRest z
+      resting t.Rest e = tt
+      resting (t.Attr z) e = absurd (false≢true e)
+      resting (t.Claim z) e = absurd (false≢true e)
+      resting t.Reset e = absurd (false≢true e)
+      resting t.Bar e = absurd (false≢true e)
+      resting (t.Make z) e = absurd (false≢true e)
+      resting (t.Free z) e = absurd (false≢true e)
+      resting t.Look e = absurd (false≢true e)
+      resting (t.Cmd z) e = absurd (false≢true e)
+      resting (t.Part z) e = absurd (false≢true e)
+
+      -- something was asked, so a call is running and a task is under way
+      idle : (p : Ask) → asked (asksOf (x .session)) n ≡ some p → IsRest (x .session .work .task) → ⊥
+      idle p e r = nothing-asked (asksOf (x .session)) n p (rest-asks (x .session .work .reset) (x .session .work .find) (x .session .work .task) r) e
+
+      runs : (p : Ask) → asked (asksOf (x .session)) n ≡ some p → (st : Stage) → x .session .stage ≡ st → isRunning st ≡ true
+      runs p e g.Fresh s = absurd (idle p e (subst (λ (z : Stage). Fit z (x .session .closing) (x .session .work .task)) s (i .suited)))
+      runs p e g.Open s = absurd (idle p e (subst (λ (z : Stage). Fit z (x .session .closing) (x .session .work .task)) s (i .suited)))
+      runs p e g.Ended s = absurd (idle p e (subst (λ (z : Stage). Fit z (x .session .closing) (x .session .work .task)) s (i .suited)))
+      runs p e (g.Prepare y) s = refl
+      runs p e (g.Boot y) s = refl
+      runs p e (g.Close y) s = refl
+
+      busy : (p : Ask) → asked (asksOf (x .session)) n ≡ some p → (b : Bool) → isResting (x .session .work .task) ≡ b → isResting (x .session .work .task) ≡ false
+      busy p e true r = absurd (idle p e (resting (x .session .work .task) r))
+      busy p e false r = r
+
+      -- what is so of the host when the closing began
+      known : (p : Ask) (r : Reply p) → asked (asksOf (x .session)) n ≡ some p → WorldStep (x .world) p r (y .world) → y .began ≡ pick (isClosing (x .session .stage)) (x .began) (y .world .host)
+          → (st : Stage) → x .session .stage ≡ st → Known st (x .session .closing) (y .world .host ≡ y .began)
+      known p r e st b g.Fresh s = idle p e (subst (λ (z : Stage). Fit z (x .session .closing) (x .session .work .task)) s (i .suited))
+      known p r e st b g.Open s = idle p e (subst (λ (z : Stage). Fit z (x .session .closing) (x .session .work .task)) s (i .suited))
+      known p r e st b g.Ended s = idle p e (subst (λ (z : Stage). Fit z (x .session .closing) (x .session .work .task)) s (i .suited))
+      known p r e st b (g.Prepare z) s = sym (b ∙ ap (λ (h : Stage). pick (isClosing h) (x .began) (y .world .host)) s)
+      known p r e st b (g.Boot z) s = sym (b ∙ ap (λ (h : Stage). pick (isClosing h) (x .began) (y .world .host)) s)
+      known p r e st b (g.Close z) s =
+          held-step z (x .session .closing) (x .session .work .task) (x .world .host ≡ x .began) (y .world .host ≡ y .began)
+          (λ no q.
+          let same = task-leaves (x .session .work .reset) (x .session .work .find) (x .session .work .task) n p r (x .world .host) (y .world .host) no e (st .1) in
+          same ∙ q ∙ sym (b ∙ ap (λ (h : Stage). pick (isClosing h) (x .began) (y .world .host)) s))
+          (subst (λ (h : Stage). Fit h (x .session .closing) (x .session .work .task)) s (i .suited))
+          (subst (λ (h : Stage). HeldAt h (x .session .closing) (x .world .host ≡ x .began)) s (i .held))
+
+      answered-by : answerable (x .session) a ≡ true → isLent n o u ≡ true → Step x (event (callAnswer a res) n o u) y → QuestionKept x (event (callAnswer a res) n o u) × Inv base k y
+      answered-by d b st = (
+        subst (λ (h : Failure). QuestionBy h (callAnswer a res) (x .session) n (x .world)) (sym (ap (λ (h : Turn). h .refusal) turned ∙ taken))
+        (λ p e. subst (λ (z : Ask). Allowed n (x .world) z) (Option·some-injective (world .0) p (sym (world .2) ∙ e)) (done .0)),
+        record {
+          there = hereAfter (x .session) a res h₁ m;
+          box = sym (st .left ∙ ap (λ (h : Failure). boxLeft h (answerIn (x .session) a res n o u) (x .inbox)) (ap (λ (h : Turn). h .refusal) turned ∙ taken) ∙ boxed);
+          safe = subst (λ (h : Session). SafeCourse (y .world) (courseOf h (hereAfter (x .session) a res h₁ m)) (Post base k)) (sym session) (done .1 .0);
+          balanced = done .1 .1;
+          suited = subst Suited (sym session) (both .0);
+          held = subst (λ (h : Session). HeldAt (h .stage) (h .closing) (y .world .host ≡ y .began)) (sym session) (both .1);
+        },
+      )
+        where
+          turned : answerOf (x .session) a res n o u ≡ stepOf (x .session) a res n o u
+          turned = in-good (answerable (x .session) a) (isLent n o u) _ _ _ d b
+
+          taken : stepOf (x .session) a res n o u .refusal ≡ f.Nothing
+          taken = step-taken (x .session) a res n o u
+
+          boxed : answerIn (x .session) a res n o u ≡ stepIn (x .session) a res n o u
+          boxed = in-good (answerable (x .session) a) (isLent n o u) _ _ _ d b
+
+          session : y .session ≡ stepOf (x .session) a res n o u .session
+          session = st .session ∙ ap (λ (h : Turn). h .session) turned
+
+          world : Answers (x .session) n a res (x .world) (y .world)
+          world = subst (λ (h : Failure). Happens h (callAnswer a res) (x .session) n (x .world) (y .world)) (ap (λ (h : Turn). h .refusal) turned ∙ taken) (st .world)
+
+          lent : n ≡ x .inbox
+          lent = subst (λ (h : Failure). SameBox h n (x .inbox)) (ap (λ (h : Turn). h .refusal) turned ∙ taken) (st .lent)
+
+          safe : SafeCourse (x .world) (courseOf (x .session) h₁) (Post base k)
+          safe = subst (λ (z : List ℕ). SafeCourse (x .world) (courseOf (x .session) (here z (i .there .outbox) (i .there .undo))) (Post base k)) (i .box ∙ sym lent) (i .safe)
+
+          done : Allowed n (x .world) (world .0) × Onward (y .world)
+          done =
+              by-course (courseOf (x .session) h₁)
+              (session-follows (x .session) h₁ (lent-length n o u b) (runs (world .0) (world .2) (x .session .stage) refl) (busy (world .0) (world .2) (isResting (x .session .work .task)) refl))
+              safe (st .lendable) (y .world) (world .0) (world .1) (world .2) (world .3) (world .4)
+
+          both : Both (y .world .host ≡ y .began) (stepOf (x .session) a res n o u .session)
+          both =
+              step-both (y .world .host ≡ y .began) (x .session) a res n o u (i .suited) (known (world .0) (world .1) (world .2) (world .4) (st .began) (x .session .stage) refl)
+
+  -- ANY EVENT
+  step : (x : Stand) (a : Call) (n o : List ℕ) (u : Top) (y : Stand) → Inv base k x → Step x (event a n o u) y → QuestionKept x (event a n o u) × Inv base k y
+  step x callOpen n o u y i st = by-time (openable (x .session)) refl (isLent n o u) refl
+    where
+      by-time : (t : Bool) → openable (x .session) ≡ t → (r : Bool) → isLent n o u ≡ r → QuestionKept x (event callOpen n o u) × Inv base k y
+      by-time true p true q = opened-by x y n o u i p q st
+      by-time true p false q =
+          let z = in-short (openable (x .session)) (isLent n o u) (begins (openPlan fresh u)) (refusedOf (x .session) r.Short (u .count)) (refusedOf (x .session) r.Wrong (u .count)) p q in
+          refused x (event callOpen n o u) y r.Short (ap (λ (h : Turn). h .session) z) (ap (λ (h : Turn). h .refusal) z) i st
+      by-time false p b q =
+          let z = in-wrong (openable (x .session)) (isLent n o u) (begins (openPlan fresh u)) (refusedOf (x .session) r.Short (u .count)) (refusedOf (x .session) r.Wrong (u .count)) p in
+          refused x (event callOpen n o u) y r.Wrong (ap (λ (h : Turn). h .session) z) (ap (λ (h : Turn). h .refusal) z) i st
+  step x callClose n o u y i st = by-time (closable (x .session)) refl (isLent n o u) refl
+    where
+      by-time : (t : Bool) → closable (x .session) ≡ t → (r : Bool) → isLent n o u ≡ r → QuestionKept x (event callClose n o u) × Inv base k y
+      by-time true p true q = closed-by x y n o u i p q st
+      by-time true p false q =
+          let z = in-short (closable (x .session)) (isLent n o u) (closingOf (x .session) u) (refusedOf (x .session) r.Short (u .count)) (refusedOf (x .session) r.Wrong (u .count)) p q in
+          refused x (event callClose n o u) y r.Short (ap (λ (h : Turn). h .session) z) (ap (λ (h : Turn). h .refusal) z) i st
+      by-time false p b q =
+          let z = in-wrong (closable (x .session)) (isLent n o u) (closingOf (x .session) u) (refusedOf (x .session) r.Short (u .count)) (refusedOf (x .session) r.Wrong (u .count)) p in
+          refused x (event callClose n o u) y r.Wrong (ap (λ (h : Turn). h .session) z) (ap (λ (h : Turn). h .refusal) z) i st
+  step x (callAnswer a res) n o u y i st = by-time (answerable (x .session) a) refl (isLent n o u) refl
+    where
+      by-time : (t : Bool) → answerable (x .session) a ≡ t → (r : Bool) → isLent n o u ≡ r → QuestionKept x (event (callAnswer a res) n o u) × Inv base k y
+      by-time true p true q = answered-by x y n o u i a res p q st
+      by-time true p false q =
+          let z = in-short (answerable (x .session) a) (isLent n o u) (stepOf (x .session) a res n o u) (refusedOf (x .session) r.Short (u .count)) (refusedOf (x .session) r.Wrong (u .count)) p q in
+          refused x (event (callAnswer a res) n o u) y r.Short (ap (λ (h : Turn). h .session) z) (ap (λ (h : Turn). h .refusal) z) i st
+      by-time false p b q =
+          let z = in-wrong (answerable (x .session) a) (isLent n o u) (stepOf (x .session) a res n o u) (refusedOf (x .session) r.Short (u .count)) (refusedOf (x .session) r.Wrong (u .count)) p in
+          refused x (event (callAnswer a res) n o u) y r.Wrong (ap (λ (h : Turn). h .session) z) (ap (λ (h : Turn). h .refusal) z) i st
+
+  always : (es : List Event) (x : Stand) → Inv base k x → Always base es x
+  always [] x i = good x i
+  always (z ∷ es) x i = (
+    good x i,
+    λ y st. let s = step x (z .call) (z .inbox) (z .outbox) (z .undo) y i st in (s .0, always es y (s .1)),
+  )
+
+-- A FRESH SESSION
+no-top : Top
+no-top = record { count = 0; op = 0; «op_mod» = 0; «in_mod» = 0; «in_param» = 0 }
+
+starts : (x : Stand) → Start x → Inv (x .world .host .hand) (x .world .host) x
+starts x s = record {
+  there = here (x .inbox) [] no-top;
+  box = refl;
+  safe = subst (λ (h : Session). SafeCourse (x .world) (courseOf h (here (x .inbox) [] no-top)) (Post (x .world .host .hand) (x .world .host))) (sym (s .session)) (record { host = refl });
+  balanced = λ h. subst (λ (l : List _). outs h l + inHand (x .world .host .hand h) ≡ backs h l + inHand (x .world .host .hand h)) (sym (s .log)) refl;
+  suited = subst Suited (sym (s .session)) tt;
+  held = subst (λ (h : Session). HeldAt (h .stage) (h .closing) (x .world .host ≡ x .began)) (sym (s .session)) tt;
+}
+
+pub demand : Demand
+demand x s es = always (x .world .host) (s .log) (s .inbox) (s .outbox) es x (starts x s)
