@@ -21,37 +21,7 @@ use Rattle.command.specs.declared.CmdEnd.{CmdEnd}
 use Rattle.card.specs.Card.{Held, Mail, Command, Card, effect, result, finish, Settles, same, ends, goOf, tbitOf, statusOf, written, begin, put, store, take, fenced, Shows, Takes, Host, World, WorldStep, mailAt, IsMap, kind, StandsAt, Posts}
 use Rattle.card.specs.Safe.{Safe}
 use Rattle.card.proofs.Sequence.{safe-pick}
-
--- WHAT IS KNOWN OF A CARD
-
--- Nothing is pending, and what is held is among H.
-abbrev pub Quiet : (Held → Type 1) → Card → Type 1
-Quiet H c = (c .pending ≡ none) × H (c .held)
-
--- What is held is among H, and will be so when a pending command ends; a pending command is among Q.
-pub record Within (H : Held → Type 1) (Q : Command → Type 0) (c : Card) : Type 1 where
-  pub now : H (c .held)
-  pub then : (p : Command) → c .pending ≡ some p → Q p × H (effect p (c .held))
-
-abbrev pub After : Command → (Held → Type 1) → Held → Type 1
-After p H g = (h : Held) × H h × (g ≡ effect p h)
-
-abbrev pub During : Command → (Held → Type 1) → Held → Type 1
-During p H g = H g ⊎ After p H g
-
-abbrev pub Or : (Command → Type 0) → Command → Command → Type 0
-Or Q p q = Q q ⊎ (q ≡ p)
-
--- The command is over, or going or over, from a card that held h.
-abbrev pub Over : Command → Held → Card → Type 1
-Over p h c = (c .pending ≡ none) × (c .last ≡ some (p .tbit)) × (c .held ≡ result (c .status) p h)
-
-abbrev pub Going : Command → Held → Card → Type 1
-Going p h c = ((c .pending ≡ some p) × (c .last ≡ some (p .tbit)) × (c .held ≡ h)) ⊎ Over p h c
-
--- The command was not taken, or is going or over.
-abbrev pub Loose : Command → (Held → Type 1) → (Command → Type 0) → Card → Type 1
-Loose p H Q c = Within H Q c ⊎ ((h : Held) × H h × Going p h c)
+use Rattle.card.specs.Known.{During, Fits, Going, Loose, Or, Out, Over, Quiet, Stable, Within, postedAs}
 
 -- nothing is pending, and the registers hold f
 abbrev pub At : Held → (ℕ → ℕ) → Card → Type 1
@@ -62,10 +32,6 @@ none≢ {p = p} e f = Option·none-ne-some p (sym e ∙ f)
 
 some≡ : {x : Option Command} {p q : Command} → x ≡ some p → x ≡ some q → p ≡ q
 some≡ {p = p} {q = q} e f = Option·some-injective p q (sym e ∙ f)
-
--- STABLE: what a pending command that ends leaves standing
-abbrev pub Stable : (Card → Type 1) → Type 1
-Stable I = (c d : Card) → Settles c d → I c → I d
 
 pub quiet-stable : (H : Held → Type 1) → Stable (Quiet H)
 quiet-stable H c d same h = h
@@ -154,19 +120,6 @@ not-taken p H Q c v shows e (inr (h, x, inr y)) = absurd (posted c (p .tbit) v s
 
 -- THE WRITTEN COMMAND IS THE ONE THAT WAS MEANT
 
--- a command as it is posted with a toggle, with these mailboxes
-abbrev pub postedAs : Bool → Post → Mail → Command
-postedAs t p m = record { opcode = p .op; inMod = p .«in_mod»; inParam = p .«in_param»; tbit = t; mail = m }
-
--- its fields have their widths, and a MAP names the inbox
-pub record Fits (p : Post) (m : Mail) : Type 0 where
-  pub op : p .op < 0x1000
-  pub opMod : p .«op_mod» < 0x100
-  pub inMod : p .«in_mod» < 2 ^ 32
-  pub inParam : p .«in_param» < 2 ^ 64
-  pub outParam : p .«out_param» < 2 ^ 64
-  pub addressed : IsMap (kind (p .op)) → StandsAt (m .inbox) (p .«in_param»)
-
 halves : (x : ℕ) → x / 2 ^ 32 * 2 ^ 32 + x % 2 ^ 32 ≡ x
 halves x = omega arith
 
@@ -207,14 +160,6 @@ written-is t p m c f fits e q = λ i. record {
 }
 
 -- THE COMMAND
-
--- what is so after each result
-abbrev pub Out : Command → (Held → Type 1) → (Command → Type 0) → CmdResult → Card → Type 1
-Out p H Q (r.Done x us) c = Quiet (After p H) c
-Out p H Q (r.Status s us) c = Quiet H c
-Out p H Q (r.Timeout us) c = Loose p H Q c
-Out p H Q r.Busy c = Within H Q c
-Out p H Q (r.Bus us) c = Loose p H Q c
 
 module _ (catas : Catas) (i : List ℕ) (t : Bool) (o : Post) (H : Held → Type 1) (Q : Command → Type 0) (l : Host) where
   abbrev p : Command

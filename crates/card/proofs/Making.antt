@@ -20,8 +20,8 @@ use Rattle.card.specs.Card.{Card, put, Hold, Host, Meets, On, InUse, orE
 use Rattle.card.specs.Safe.{Safe}
 use Rattle.card.specs.Owns.{Each, Pairwise, spotOf, holdOf, InBooks, Apart, Owns}
 use Rattle.card.proofs.Sequence.{safe-weaken, safe-pick}
-use Rattle.card.proofs.Command.{Stable}
 use Rattle.card.proofs.Owns.{put-same, put-other, each-map, each-both, owns-use}
+use Rattle.card.specs.Known.{Stable}
 
 -- what a buffer that was made is: as many pages as asked for, at an address that 18 does not refuse
 pub record Sound (n : ℕ) (b : Buffer) : Type 0 where

@@ -14,8 +14,9 @@ use Rattle.buffer.specs.Buffer.{freeing}
 use Rattle.card.specs.Card.{Card, put, Hold, Host, Meets, On, InUse, unmapAll, unmapIn, handBack, MayUse, Clear, World}
 use Rattle.card.specs.Safe.{Safe}
 use Rattle.card.specs.Owns.{Each, Pairwise, spotOf, holdOf, InBooks, Apart, Owns}
-use Rattle.card.proofs.Command.{Quiet, quiet-stable}
-use Rattle.card.proofs.View.{Empty, empty-uses}
+use Rattle.card.proofs.Command.{quiet-stable}
+use Rattle.card.proofs.View.{empty-uses}
+use Rattle.card.specs.Known.{Empty, Quiet}
 
 pub put-same : {A : Type 0} (f : ℕ → A) (n : ℕ) (x : A) (m : ℕ) → m ≡ n → put f n x m ≡ x
 put-same f n x m e = ap (λ (b : Bool). pick b x (f m)) (eq-eqb m n e)

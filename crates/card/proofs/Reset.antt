@@ -19,15 +19,8 @@ use Rattle.reset.specs.declared.Control.the-variants as c
 use Rattle.card.specs.Card.{Held, Card, holds, No, Settles, same, ends, Takes, take, Host, World, WorldStep}
 use Rattle.card.specs.Safe.{Safe}
 use Rattle.card.proofs.Sequence.{safe-weaken, safe-pick}
-use Rattle.card.proofs.Command.{Quiet, Stable}
 use Rattle.card.proofs.Still.{Stills, stills-pick, safe-still}
-
-abbrev pub Nothing : Held → Type 1
-Nothing g = g ≡ holds (λ v d. ⊥) No No No
-
--- the reset was taken, and no command since
-abbrev pub Clean : Card → Type 1
-Clean k = (k .last ≡ none) × Quiet Nothing k
+use Rattle.card.specs.Known.{Clean, Quiet, ResetPost, Stable}
 
 pub clean-stable : Stable Clean
 clean-stable k d same x = x
@@ -50,10 +43,6 @@ control-still (c.Saved at device link) next h = (tt, λ r. (tt, λ s. h))
 
 after-still : (ds : List ℕ) (k : Control) → Stills (afterwards ds k)
 after-still ds k = vendor-still 2000 _ (control-still k _ (restore-still 16 ds))
-
--- Reported good, it was taken; failed, it may have been, and nothing is said of the card. The host has no part in it.
-abbrev pub ResetPost : Host → World → ResetEnd → Type 1
-ResetPost l w x = (w .host ≡ l) × (isGood x ≡ true → Clean (w .card))
 
 module _ (i : List ℕ) (l : Host) where
   bad : (w : World) (x : ResetEnd) → isGood x ≡ false → w .host ≡ l → ResetPost l w x

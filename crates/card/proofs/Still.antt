@@ -28,7 +28,7 @@ use Rattle.uar.specs.declared.Found.{Found}
 use Rattle.work.specs.Work.{looking}
 use Rattle.card.specs.Card.{Card, Settles, Takes, take, store, Host, World, WorldStep, Allowed}
 use Rattle.card.specs.Safe.{Safe}
-use Rattle.card.proofs.Command.{Stable}
+use Rattle.card.specs.Known.{Stable}
 
 abbrev pub Still : Ask → Type 0
 Still (configRead16 o) = Unit {0}

@@ -5,11 +5,7 @@ use mathlib.Core.Option.{Option, some, none, Option·none-ne-some}
 use mathlib.Core.Path.{_≡_, sym, _∙_, ap, subst}
 use Rattle.pci.specs.Script.{Spot}
 use Rattle.card.specs.Card.{Held, Command, Card, Named, Kind, MapFa, UnmapFa, MapAux, UnmapAux, MapIcm, UnmapIcm, CloseHca, Other, kind, does, effect, Holds, IsMap, OnBox, Carries, MayUse}
-use Rattle.card.proofs.Command.{Quiet, Within}
-use Rattle.card.proofs.Reset.{Nothing}
-
-pub record Empty (h : Held) : Type 1 where
-  pub nothing : (d : ℕ) → Holds h d → ⊥
+use Rattle.card.specs.Known.{Empty, Nothing, Quiet, Within}
 
 pub nothing-empty : (g : Held) → Nothing g → Empty g
 nothing-empty g e = subst Empty (sym e) (record { nothing = λ d z. ⊎-elim (λ i. i .1) (λ u. ⊎-elim (λ f. f) (λ y. ⊎-elim (λ a. a) (λ l. l) y) u) z })

@@ -46,17 +46,20 @@ use Rattle.opening.specs.Opening.{fails, brokenBy, onGood, holds, onMade, mappi
 use Rattle.opening.proofs.Cutting.{behind-less}
 use Rattle.card.specs.Card.{Held, Command, Card, Hold, Host, Meets, orElse, second, MayUse, World, mailAt}
 use Rattle.card.specs.Owns.{Owns, InBooks, spotOf}
-use Rattle.card.proofs.Command.{Quiet, Within, After, Out, Fits, postedAs, quiet-stable, quiet-within}
-use Rattle.card.proofs.View.{Empty, quiet-uses}
+use Rattle.card.proofs.Command.{quiet-stable, quiet-within}
+use Rattle.card.proofs.View.{quiet-uses}
 use Rattle.card.proofs.Owns.{Perm, owns-perm}
 use Rattle.card.proofs.Making.{Sound, MadePost, safe-making}
 use Rattle.card_calls.specs.SafeCourse.{SafeCourse}
 use Rattle.card_calls.specs.Ranges.{OnRange, InRanges}
 use Rattle.card_calls.proofs.Courses.{Fair, safe-task, safe-sends, course-pick}
-use Rattle.card_calls.proofs.Blocks.{AnyIn, Cutting, OnRun, cutting, behind-cutting, range-blocks, length-mailbox, first-few}
-use Rattle.card_calls.proofs.Closing.{OwedBy}
-use Rattle.card_calls.proofs.Books.{Knows, Entries, Partly, OnSlot, Ahead, Missing, knows-owed, partly-owed, partly-done, partly-step, knows-bound, fa-perm, aux-perm, entryOf, ranged, range-enters, ranged-entries, in-old, in-new, in-either, range-perm}
-use Rattle.card_calls.proofs.Commands.{Boxes, Calm, Ready, fits-in, safe-fails, safe-failed}
+use Rattle.card_calls.proofs.Blocks.{Cutting, OnRun, cutting, behind-cutting, range-blocks, length-mailbox, first-few}
+use Rattle.card_calls.proofs.Books.{knows-owed, partly-owed, partly-done, partly-step, knows-bound, fa-perm, aux-perm, entryOf, ranged, range-enters, ranged-entries, in-old, in-new, in-either, range-perm}
+use Rattle.card_calls.proofs.Commands.{fits-in, safe-fails, safe-failed}
+use Rattle.card.specs.Known.{After, Empty, Fits, Out, Quiet, Within, postedAs}
+use Rattle.card_calls.specs.Ranges.{AnyIn}
+use Rattle.card_calls.specs.Owed.{OwedBy}
+use Rattle.card_calls.specs.Holding.{Ahead, Boxes, Calm, Entries, Knows, Missing, OnSlot, Partly, Ready}
 
 -- PAGES: fewer than 2^52, and not one more than the bytes want
 pub pages-few : (bytes n : ℕ) → pagesFor bytes ≡ value n → (n < 2 ^ 52) × (n ≤ bytes / 4096 + 1)

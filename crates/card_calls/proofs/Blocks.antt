@@ -25,14 +25,7 @@ use Rattle.dma.proofs.ReadBack.{mailbox-read, blocks-carried}
 use Rattle.dma.proofs.Steps.{first-is, behind-is, behind-within, blocks-none}
 use Rattle.card.specs.Card.{Command, InBlock, Blocks}
 use Rattle.card.specs.Card as c
-
--- page i of a block that was cut
-abbrev pub InCut : Block → ℕ → ℕ → Type 0
-InCut b x d = (i : ℕ) × (i < 2 ^ (b .log - 12)) × (x ≡ b .virt / 4096 + i) × (d ≡ b .phys / 4096 + i)
-
-abbrev pub AnyIn : List Block → ℕ → ℕ → Type 0
-AnyIn [] x d = ⊥
-AnyIn (b ∷ bs) x d = InCut b x d ⊎ AnyIn bs x d
+use Rattle.card_calls.specs.Ranges.{AnyIn, InCut}
 
 -- A MAILBOX: what the card reads there are its blocks
 

@@ -29,47 +29,13 @@ use Rattle.closing.specs.Closing.{inHold, isHeld, boxes, areas, rangesFrom, len
 use Rattle.opening.specs.Values.{opFor, withFa, withAux, withRange, enters, appended, rangeAt}
 use Rattle.card.specs.Card.{Held, Command, Card, Blocks, Named, Kind, kind, does, effect, Holds, Meets, Host}
 use Rattle.card.specs.Owns.{InBooks, spotOf}
-use Rattle.card.proofs.Command.{After}
 use Rattle.card.proofs.Owns.{Perm, stop, keep, swap, join, perm-self, In, in-left, in-right, in-books}
 use Rattle.card_calls.specs.Ranges.{OnRange, InRanges}
-use Rattle.card_calls.proofs.Closing.{Owed, OwedBy}
-use Rattle.card_calls.proofs.Blocks.{AnyIn, Cutting, carries, first-few, first-carried, any-split, none-left}
-
--- WHAT THE CARD HOLDS: exactly the ranges; no more than the areas; nothing lent
-abbrev pub OnSlot : Slot → ℕ → Type 0
-OnSlot o.Absent d = ⊥
-OnSlot (o.Held b) d = Meets (spotOf b) d
-
-pub record Knows (b : Books) (g : Held) : Type 1 where
-  pub icm : (x d : ℕ) → g .icm x d ↔ InRanges b x d
-  pub firmware : (d : ℕ) → g .firmware d → OnSlot (b .held .fa) d
-  pub auxiliary : (d : ℕ) → g .auxiliary d → OnSlot (b .held .aux) d
-  pub lent : (d : ℕ) → g .lent d → ⊥
-
--- the list of ranges has its place for fourteen; each has fewer than 2^32 pages at an address of 64 bits
-pub record Entries (b : Books) : Type 0 where
-  pub room : length (b .lists .icm) ≡ 14
-  pub small : (k : ℕ) → k < b .lists .ranges → icmAt (b .lists .icm) k .pages < 2 ^ 32
-  pub addressed : (k : ℕ) → k < b .lists .ranges → icmAt (b .lists .icm) k .virt < 2 ^ 64
-
--- WHILE AN AREA IS MAPPED: what is left to cut is not yet held, and lies where it belongs
-abbrev pub Ahead : Area → Books → ℕ → ℕ → Type 0
-Ahead a.Fa b x d = OnSlot (b .held .fa) d
-Ahead a.Aux b x d = OnSlot (b .held .aux) d
-Ahead (a.Range i) b x d = InRanges b x d
-
-abbrev pub Missing : Area → Cutter → ℕ → ℕ → Type 0
-Missing a.Fa k x d = ⊥
-Missing a.Aux k x d = ⊥
-Missing (a.Range i) k x d = AnyIn (blocksIn 63 k) x d
-
-pub record Partly (e : Area) (b : Books) (k : Cutter) (g : Held) : Type 1 where
-  pub lower : (x d : ℕ) → g .icm x d → InRanges b x d
-  pub total : (x d : ℕ) → InRanges b x d → g .icm x d ⊎ Missing e k x d
-  pub firmware : (d : ℕ) → g .firmware d → OnSlot (b .held .fa) d
-  pub auxiliary : (d : ℕ) → g .auxiliary d → OnSlot (b .held .aux) d
-  pub lent : (d : ℕ) → g .lent d → ⊥
-  pub ahead : (x d : ℕ) → AnyIn (blocksIn 63 k) x d → Ahead e b x d
+use Rattle.card_calls.proofs.Blocks.{Cutting, carries, first-few, first-carried, any-split, none-left}
+use Rattle.card.specs.Known.{After}
+use Rattle.card_calls.specs.Owed.{Owed, OwedBy}
+use Rattle.card_calls.specs.Ranges.{AnyIn}
+use Rattle.card_calls.specs.Holding.{Ahead, Entries, Knows, Missing, OnSlot, Partly}
 
 slot-held : (s : Slot) (d : ℕ) → OnSlot s d → isHeld s ≡ true
 slot-held o.Absent d z = absurd z

@@ -32,26 +32,15 @@ use Rattle.session.specs.declared.Closing.the-variants as c
 use Rattle.closing.specs.Closing.{isDone, isHeld, lendsFrom, emptied, undoPost, popped, UNDOS, restored, parted, freed, giving, resetting, stopped, onward, unmapFa, unmapAux, unmapping, closeHca, undoing, stopping}
 use Rattle.card.specs.Card.{Held, Command, Card, Mail, Kind, Other, kind, does, effect, Holds, IsMap, StandsAt, Hold, Host, World, mailAt, store}
 use Rattle.card.specs.Owns.{Owns}
-use Rattle.card.proofs.Command.{Quiet, Within, After, During, Or, Out, Loose, Stable, Fits, postedAs, quiet-stable, quiet-within}
+use Rattle.card.proofs.Command.{quiet-stable, quiet-within}
 use Rattle.card.proofs.Still.{safe-still, restoring-still, safe-releasing}
-use Rattle.card.proofs.Reset.{Clean, ResetPost, safe-reset}
-use Rattle.card.proofs.View.{Empty, nothing-empty, other-effect}
+use Rattle.card.proofs.Reset.{safe-reset}
+use Rattle.card.proofs.View.{nothing-empty, other-effect}
 use Rattle.card.proofs.Owns.{safe-freeing}
 use Rattle.card_calls.specs.SafeCourse.{Typed, SafeCourse}
 use Rattle.card_calls.proofs.Courses.{Fair, safe-task, safe-sends, course-pick}
-
--- WHAT IS OWED: what is held is no more than what the commands of a closing end. A range is dropped by its pages, modulo 2^32
-abbrev pub Dropped : Icm → ℕ → Type 0
-Dropped e v = (e .virt / 4096 ≤ v) × (v < e .virt / 4096 + e .pages % 2 ^ 32)
-
-pub record Owed (icms : List Icm) (started : Bool) (n : ℕ) (aux fa : Bool) (h : Held) : Type 1 where
-  pub icm : (v d : ℕ) → h .icm v d → (k : ℕ) × (k < n) × Dropped (icmAt icms k) v
-  pub firmware : (d : ℕ) → h .firmware d → fa ≡ true
-  pub auxiliary : (d : ℕ) → h .auxiliary d → aux ≡ true
-  pub lent : (d : ℕ) → h .lent d → started ≡ true
-
-abbrev pub OwedBy : Books → Held → Type 1
-OwedBy b = Owed (b .lists .icm) (b .started) (b .lists .ranges) (isHeld (b .held .aux)) (isHeld (b .held .fa))
+use Rattle.card.specs.Known.{After, Clean, During, Empty, Fits, Loose, Or, Out, Quiet, ResetPost, Stable, Within, postedAs}
+use Rattle.card_calls.specs.Owed.{Dropped, Owed, OwedBy, Stoppable}
 
 false≢ : {A : Type 0} → _≡_ {A = Bool} false true → A
 false≢ e = absurd (false≢true e)
@@ -210,10 +199,6 @@ module _ (n : Info) (f : Failure) (P : World → Rest → Type 1) where
           (λ t. let x = m .1 t in safe-giving c.Reset b j v reset-differs k (subst (Owns base (lendsFrom b 0)) (sym (m .0)) o) (x .1 .0, nothing-empty (v .card .held) (x .1 .1)))
           (λ t. safe-parted (v .host) (λ y. y ≡ y) (λ y z s u. refl) (λ y z s u. refl) c.Kept b
           (λ u a z. kept b u (subst (Owns base (lendsFrom b 0)) (sym (a ∙ m .0)) o) (a ∙ m .0 ∙ e)) j v k refl refl))
-
-      -- what is known where nothing need be reset: what is held is among H; where no command was sent whose end was not seen, none is pending
-      abbrev pub Stoppable : (Held → Type 1) → Wire → Card → Type 1
-      Stoppable H y k = Within H (λ p. Unit {0}) k × (y .running ≡ false → k .pending ≡ none)
 
       quiet-stoppable : (H : Held → Type 1) (y : Wire) (k : Card) → Quiet H k → Stoppable H y k
       quiet-stoppable H y k x = (quiet-within H (λ p. Unit {0}) k x, λ e. x .0)

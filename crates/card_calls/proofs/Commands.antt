@@ -30,34 +30,15 @@ use Rattle.opening.specs.Values.{needsReset, failureOf, refusalOf}
 use Rattle.opening.specs.Opening.{fails, brokenBy, onGood, onValue}
 use Rattle.card.specs.Card.{Held, Command, Card, Mail, Other, kind, IsMap, StandsAt, Hold, Host, World, mailAt}
 use Rattle.card.specs.Owns.{Owns, spotOf}
-use Rattle.card.proofs.Command.{Quiet, Within, After, During, Or, Out, Loose, Fits, postedAs, quiet-within, within-more, loose-within}
-use Rattle.card.proofs.View.{Empty, other-effect}
+use Rattle.card.proofs.Command.{quiet-within, within-more, loose-within}
+use Rattle.card.proofs.View.{other-effect}
 use Rattle.card_calls.proofs.Courses.{Fair, safe-sends}
-use Rattle.card_calls.proofs.Closing.{OwedBy, safe-stopping}
-use Rattle.card_calls.proofs.Books.{Knows, Entries, knows-owed}
+use Rattle.card_calls.proofs.Closing.{safe-stopping}
+use Rattle.card_calls.proofs.Books.{knows-owed}
 use Rattle.card_calls.specs.SafeCourse.{SafeCourse}
-
--- the mailboxes are held, and the fences go to them
-pub record Boxes (b : Books) (k : Host) : Type 0 where
-  pub inbox : Buffer
-  pub outbox : Buffer
-  pub inHeld : b .held .inbox ≡ o.Held inbox
-  pub outHeld : b .held .outbox ≡ o.Held outbox
-  pub inAt : k .inbox ≡ some (spotOf inbox)
-  pub outAt : k .outbox ≡ some (spotOf outbox)
-  pub inLess : inbox .dev < 2 ^ 64
-  pub outLess : outbox .dev < 2 ^ 64
-
--- a command of no effect
-abbrev pub Calm : Command → Type 0
-Calm p = kind (p .opcode) ≡ Other
-
--- between two commands of an opening
-pub record Ready (base : ℕ → Option Hold) (b : Books) (w : World) : Type 1 where
-  pub owns : Owns base (lendsFrom b 0) (w .host)
-  pub card : Quiet (Knows b) (w .card)
-  pub boxes : Boxes b (w .host)
-  pub entries : Entries b
+use Rattle.card.specs.Known.{After, During, Empty, Fits, Loose, Or, Out, Quiet, Within, postedAs}
+use Rattle.card_calls.specs.Owed.{OwedBy}
+use Rattle.card_calls.specs.Holding.{Boxes, Calm, Entries, Knows, Ready}
 
 -- COMMANDS THAT FIT
 module _ (b : Books) (k : Host) (x : Boxes b k) where

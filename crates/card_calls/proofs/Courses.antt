@@ -17,8 +17,9 @@ use Rattle.session.specs.Course.{Course, ret, ask, Here, here, Lent, left, lent
 use Rattle.session.specs.declared.Books.{Books}
 use Rattle.card.specs.Card.{Held, Command, Card, Host, World, WorldStep, mailAt}
 use Rattle.card.specs.Safe.{Safe}
-use Rattle.card.proofs.Command.{Within, Fits, postedAs, Out, CmdPost, safe-command}
+use Rattle.card.proofs.Command.{CmdPost, safe-command}
 use Rattle.card_calls.specs.SafeCourse.{Typed, Lendable, SafeCourse}
+use Rattle.card.specs.Known.{Fits, Out, Within, postedAs}
 
 -- the mailboxes and the undo record that a call is lent
 pub record Fair (h : Here) : Type 0 where

@@ -71,30 +71,21 @@ use Rattle.opening.specs.Values.{needsReset, failureOf, fwFailureOf, faultOf, i
 use Rattle.opening.specs.Opening.{fails, failsBy, brokenBy, onGood, onValue, holds, onMade, opened, queryAdapter, queryFunc, initHca, areaFor, mapIcm, setIcmSize, layingOut, queryPorts, portsOf, queryDevCap, modStat, runFw, fwReply, queryFw, look, giveInbox, makeOutbox, makeInbox, onFound, findUar, firstReset, onClaimed, claim, onEnabled, enable, opening}
 use Rattle.card.specs.Card.{Held, Command, Card, No, Hold, Host, orElse, second, MayUse, World, store, mailAt}
 use Rattle.card.specs.Owns.{Owns, InBooks, spotOf}
-use Rattle.card.proofs.Command.{Quiet, Within, Out, Fits, postedAs, quiet-stable, quiet-within}
+use Rattle.card.proofs.Command.{quiet-stable, quiet-within}
 use Rattle.card.proofs.Still.{safe-still, attributing-still, claiming-still, finding-still, looking-still}
-use Rattle.card.proofs.Reset.{Nothing, Clean, ResetPost, safe-reset}
-use Rattle.card.proofs.View.{Empty, nothing-empty, quiet-uses}
+use Rattle.card.proofs.Reset.{safe-reset}
+use Rattle.card.proofs.View.{nothing-empty, quiet-uses}
 use Rattle.card.proofs.Owns.{swap, owns-perm}
 use Rattle.card.proofs.Making.{Sound, MadePost, safe-making}
 use Rattle.card_calls.specs.SafeCourse.{SafeCourse}
 use Rattle.card_calls.specs.Ranges.{AsLaid, InRanges}
 use Rattle.card_calls.proofs.Courses.{Fair, fair-zeroed, safe-run, safe-task, course-pick}
 use Rattle.card_calls.proofs.Closing.{clean-differs, safe-restored, safe-parted, safe-all-freed}
-use Rattle.card_calls.proofs.Books.{Knows, Entries, knows-owed, ranged, entryOf, each-range}
-use Rattle.card_calls.proofs.Commands.{Boxes, Calm, Ready, fits-in, fits-out, fits-imm, safe-failed, ready-fails, ready-value, safe-other, safe-good}
+use Rattle.card_calls.proofs.Books.{knows-owed, ranged, entryOf, each-range}
+use Rattle.card_calls.proofs.Commands.{fits-in, fits-out, fits-imm, safe-failed, ready-fails, ready-value, safe-other, safe-good}
 use Rattle.card_calls.proofs.Areas.{Placed, safe-area, enters-fa, enters-aux, enters-range}
-
--- OPEN: the books have the fourteen ranges of the layout, and the card's map is exactly these; a command that may be pending is of no effect
-pub record Opened (base : ℕ → Option Hold) (n : Info) (b : Books) (w : World) : Type 1 where
-  pub owns : Owns base (lendsFrom b 0) (w .host)
-  pub boxes : Boxes b (w .host)
-  pub entries : Entries b
-  pub fourteen : b .lists .ranges ≡ 14
-  pub laid : AsLaid n b 14
-  pub started : b .started ≡ true
-  pub card : Within (Knows b) Calm (w .card)
-  pub quiet : b .wire .running ≡ false → w .card .pending ≡ none
+use Rattle.card.specs.Known.{Clean, Empty, Fits, Nothing, Out, Quiet, ResetPost, Within, postedAs}
+use Rattle.card_calls.specs.Holding.{Boxes, Calm, Entries, Knows, Opened, Ready}
 
 -- THE LAYOUT's ranges
 pub record Laid (n : Info) : Type 0 where

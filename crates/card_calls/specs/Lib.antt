@@ -1,2 +1,4 @@
 pub mod SafeCourse
 pub mod Ranges
+pub mod Owed
+pub mod Holding

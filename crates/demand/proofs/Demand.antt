@@ -46,21 +46,23 @@ use Rattle.fw.proofs.Landed.{counted}
 use Rattle.fw.proofs.Session.{session-follows, opens, closes}
 use Rattle.card.specs.Card.{Held, Card, Settles, Hold, Host, World, WorldStep, MayUse, Allowed}
 use Rattle.card.specs.Owns.{Owns, outs, backs}
-use Rattle.card.proofs.Command.{Quiet, Within, within-stable, within-more, quiet-stable}
-use Rattle.card.proofs.View.{Empty, empty-uses}
+use Rattle.card.proofs.Command.{within-stable, within-more, quiet-stable}
+use Rattle.card.proofs.View.{empty-uses}
 use Rattle.card.proofs.Once.{inHand, Balanced, step-balanced}
 use Rattle.card_calls.specs.SafeCourse.{Lendable, SafeCourse}
 use Rattle.card_calls.proofs.Courses.{Fair}
-use Rattle.card_calls.proofs.Closing.{OwedBy, safe-stopping}
-use Rattle.card_calls.proofs.Books.{Knows, knows-owed}
-use Rattle.card_calls.proofs.Commands.{Calm}
-use Rattle.card_calls.proofs.Opening.{Opened, safe-opening}
+use Rattle.card_calls.proofs.Closing.{safe-stopping}
+use Rattle.card_calls.proofs.Books.{knows-owed}
+use Rattle.card_calls.proofs.Opening.{safe-opening}
 use Rattle.demand.specs.Events.{Call, callOpen, callClose, callAnswer, Event, turn, asked, Stand, Rests, Answers, Happens, SameBox, boxLeft, isClosing, lentBy, inboxAfter, Step}
 use Rattle.demand.specs.Demand.{QuestionBy, QuestionKept, Exact, Returned, Kept, EndedBy, GoodAt, Good, Start, Always, Demand}
 use Rattle.demand.proofs.Plans.{NoHost, IsRest, Fit, Suited, HeldClose, HeldAt, Known, held-all, held-map, held-step, Both, step-both, stop-suited}
 use Rattle.demand.proofs.Settle.{settled-uses, at, rests-at, course-settled}
 use Rattle.demand.proofs.Questions.{asked-shown, rest-asks, nothing-asked, task-leaves}
 use Rattle.demand.proofs.OnePage.{one-page}
+use Rattle.card.specs.Known.{Empty, Nothing, Quiet, Within}
+use Rattle.card_calls.specs.Owed.{OwedBy}
+use Rattle.card_calls.specs.Holding.{Calm, Knows, Opened}
 
 -- WHAT IS SO AT THE END OF A CALL. Nothing was asked of the host yet; or all is given back, and the card may use no page unless nothing was asked; or all is kept
 record Waiting (k : Host) (w : World) : Type 1 where
