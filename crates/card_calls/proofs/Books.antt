@@ -33,23 +33,22 @@ use Rattle.card.proofs.Owns.{Perm, stop, keep, swap, join, perm-self, In, in-le
 use Rattle.card_calls.specs.Ranges.{OnRange, InRanges}
 use Rattle.card_calls.proofs.Blocks.{Cutting, carries, first-few, first-carried, any-split, none-left}
 use Rattle.card.specs.Known.{After}
-use Rattle.card_calls.specs.Owed.{Owed, OwedBy}
+use Rattle.card_calls.specs.Owed.{Dropped, Owed, OwedBy}
 use Rattle.card_calls.specs.Ranges.{AnyIn}
-use Rattle.card_calls.specs.Holding.{Ahead, Entries, Knows, Missing, OnSlot, Partly}
+use Rattle.card_calls.specs.Holding.{Ahead, Entries, Knows, Missing, OnSlot, Partly, Posted}
 
 slot-held : (s : Slot) (d : ℕ) → OnSlot s d → isHeld s ≡ true
 slot-held o.Absent d z = absurd z
 slot-held (o.Held b) d z = refl
 
-range-dropped : (b : Books) (i : Entries b) (x d : ℕ) → InRanges b x d
-    → (k : ℕ) × (k < b .lists .ranges) × (icmAt (b .lists .icm) k .virt / 4096 ≤ x) × (x < icmAt (b .lists .icm) k .virt / 4096 + icmAt (b .lists .icm) k .pages % 2 ^ 32)
+range-dropped : (b : Books) (i : Entries b) (x d : ℕ) → InRanges b x d → (k : ℕ) × (k < b .lists .ranges) × Dropped (icmAt (b .lists .icm) k) x
 range-dropped b i x d (k, l, (j, m, e, f)) =
     let p : icmAt (b .lists .icm) k .pages % 2 ^ 32 ≡ icmAt (b .lists .icm) k .pages = mod-eq-of-lt (i .small k l) in
-    (k, l, omega (arith, e), omega (arith, e, m, p))
+    (k, l, (omega (arith, e), omega (arith, e, m, p)))
 
 pub partly-owed : (e : Area) (b : Books) (k : Cutter) (g : Held) → Entries b → Partly e b k g → OwedBy b g
 partly-owed e b k g i x = record {
-  icm = λ y d z. let q = range-dropped b i y d (x .lower y d z) in (q .0, q .1, (q .2, q .3));
+  icm = λ y d z. let q = range-dropped b i y d (x .lower y d z) in (q .0, omega (arith, q .1), q .2);
   firmware = λ d z. slot-held (b .held .fa) d (x .firmware d z);
   auxiliary = λ d z. slot-held (b .held .aux) d (x .auxiliary d z);
   lent = λ d z. absurd (x .lent d z);
@@ -57,14 +56,14 @@ partly-owed e b k g i x = record {
 
 pub knows-owed : (b : Books) (g : Held) → Entries b → Knows b g → OwedBy b g
 knows-owed b g i x = record {
-  icm = λ y d z. let q = range-dropped b i y d (x .icm y d .0 z) in (q .0, q .1, (q .2, q .3));
+  icm = λ y d z. let q = range-dropped b i y d (x .icm y d .0 z) in (q .0, omega (arith, q .1), q .2);
   firmware = λ d z. slot-held (b .held .fa) d (x .firmware d z);
   auxiliary = λ d z. slot-held (b .held .aux) d (x .auxiliary d z);
   lent = λ d z. absurd (x .lent d z);
 }
 
 -- nothing is left to cut
-pub partly-done : (e : Area) (b : Books) (k : Cutter) (g : Held) → Cutting k → k .left ≡ 0 → Partly e b k g → Knows b g
+pub partly-done : (e : Area) (b : Books) (k : Cutter) (g : Held) → Cutting k → Posted k → Partly e b k g → Knows b g
 partly-done e b k g c z x = record {
   icm = λ y d. (x .lower y d, λ q. ⊎-elim (λ r. r) (λ r. absurd (gone e y d r)) (x .total y d q));
   firmware = x .firmware;

@@ -49,6 +49,10 @@ Missing a.Fa k x d = ⊥
 Missing a.Aux k x d = ⊥
 Missing (a.Range i) k x d = AnyIn (blocksIn 63 k) x d
 
+-- all its mailboxes are posted
+abbrev pub Posted : Cutter → Type 0
+Posted k = k .left ≡ 0
+
 pub record Partly (e : Area) (b : Books) (k : Cutter) (g : Held) : Type 1 where
   pub lower : (x d : ℕ) → g .icm x d → InRanges b x d
   pub total : (x d : ℕ) → InRanges b x d → g .icm x d ⊎ Missing e k x d
