@@ -126,7 +126,7 @@ halves x = omega arith
 opcode-of : (a b d : ℕ) → a < 0x1000 → (2 ^ 23 + d * 2 ^ 21 + b * 2 ^ 12 + a % 2 ^ 12) % 0x1000 ≡ a
 opcode-of a b d h = omega arith
 
-tbit-of : (t : Bool) (b a : ℕ) → a < 0x1000 → b < 0x100 → tbitOf (goWord t b a) ≡ t
+pub tbit-of : (t : Bool) (b a : ℕ) → a < 0x1000 → b < 0x100 → tbitOf (goWord t b a) ≡ t
 tbit-of true b a h k = eq-eqb ((2 ^ 23 + 1 * 2 ^ 21 + b * 2 ^ 12 + a % 2 ^ 12) / 2 ^ 21 % 2) 1 (omega arith)
 tbit-of false b a h k =
     ne-eqb ((2 ^ 23 + 0 * 2 ^ 21 + b * 2 ^ 12 + a % 2 ^ 12) / 2 ^ 21 % 2) 1
@@ -136,7 +136,7 @@ digit-le : (t : Bool) → digit t ≤ 1
 digit-le true = omega arith
 digit-le false = omega arith
 
-go-of : (t : Bool) (b a : ℕ) → a < 0x1000 → b < 0x100 → goOf (goWord t b a) ≡ true
+pub go-of : (t : Bool) (b a : ℕ) → a < 0x1000 → b < 0x100 → goOf (goWord t b a) ≡ true
 go-of t b a h k =
     let d = digit-le t in eq-eqb ((2 ^ 23 + digit t * 2 ^ 21 + b * 2 ^ 12 + a % 2 ^ 12) / 2 ^ 23 % 2) 1 (omega (arith, d))
 

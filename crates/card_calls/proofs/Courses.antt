@@ -57,7 +57,7 @@ fair-touched b (unmap k) r h f = f
 fair-touched b (free k n) r h f = f
 fair-touched b (fence i) r h f = f
 
-untouched : (q : Ask) (r : Reply q) (h : Here) → touched neither q r h ≡ h
+pub untouched : (q : Ask) (r : Reply q) (h : Here) → touched neither q r h ≡ h
 untouched (configRead16 o) r h = refl
 untouched (configRead32 o) r h = refl
 untouched (configWrite16 o v) r h = refl

@@ -1,0 +1,2 @@
+-- The other tasks can end well.
+use Prim.Native.Nat.{ℕ}
