@@ -20,30 +20,6 @@ pub says-read : (b o x : ℕ) → x < 2 ^ 32 → Answered (read b o) (good x)
 says-read b o x h = (an.Dword _, [], ap (λ (n : ℕ). some (good n)) (swap-swap x h))
 
 module _ {R : Type 0} (w : World) (Q : World → R → Type 1) where
-  pub can-config16 : (o : ℕ) (k : Bus ℕ → Script R) (x : ℕ) → Can w (k (good x)) Q → Can w (s.ask (configRead16 o) k) Q
-  can-config16 o k x c = (good x, w, (an.Word x, [], refl), (same, refl), c)
-
-  pub can-config16-failed : (o : ℕ) (k : Bus ℕ → Script R) → Can w (k failed) Q → Can w (s.ask (configRead16 o) k) Q
-  can-config16-failed o k c = (failed, w, (an.Failed, [], refl), (same, refl), c)
-
-  pub can-config32 : (o : ℕ) (k : Bus ℕ → Script R) (x : ℕ) → Can w (k (good x)) Q → Can w (s.ask (configRead32 o) k) Q
-  can-config32 o k x c = (good x, w, (an.Dword x, [], refl), (same, refl), c)
-
-  pub can-config32-failed : (o : ℕ) (k : Bus ℕ → Script R) → Can w (k failed) Q → Can w (s.ask (configRead32 o) k) Q
-  can-config32-failed o k c = (failed, w, (an.Failed, [], refl), (same, refl), c)
-
-  pub can-put32 : (o x : ℕ) (k : Bus (Unit {0}) → Script R) → Can w (k (good tt)) Q → Can w (s.ask (configWrite32 o x) k) Q
-  can-put32 o x k c = (good tt, w, (an.Done, [], refl), (same, refl), c)
-
-  pub can-attributes : (o x y : ℕ) (k : Bus ℕ → Script R) → Can w (k (good y)) Q → Can w (s.ask (attributes o x) k) Q
-  can-attributes o x y k c = (good y, w, (an.Qword y, [], refl), (same, refl), c)
-
-  pub can-resource : (b : ℕ) (k : Bus (List ℕ) → Script R) → Can w (k failed) Q → Can w (s.ask (resource b) k) Q
-  can-resource b k c = (failed, w, (an.Failed, [], refl), (same, refl), c)
-
-  pub can-stall : (u : ℕ) (k : Unit {0} → Script R) → Can w (k tt) Q → Can w (s.ask (stall u) k) Q
-  can-stall u k c = (tt, w, (an.Done, [], refl), (same, refl), c)
-
   pub can-true : (b : Bool) (x y : Script R) → b ≡ true → Can w x Q → Can w (pick b x y) Q
   can-true true x y e c = c
   can-true false x y e c = absurd (false≢true e)
