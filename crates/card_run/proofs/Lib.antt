@@ -1,3 +1,4 @@
 pub mod Steps
 pub mod Command
 pub mod Tasks
+pub mod Opening
