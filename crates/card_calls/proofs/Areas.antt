@@ -150,9 +150,11 @@ module _ (base : ℕ → Option Hold) (P : World → Rest → Type 1)
             → Out (postedAs (y .toggle) (withInOf (b .held) (opFor e) (length (firstBlocks 63 256 k) % 2 ^ 32)) (mailAt (w .host) (filledAt 63 256 k (h .inbox)))) (Partly e b k) Calm a (v .card)
             → SafeCourse v (onGood a (λ f i. mapping e next m (behind 63 256 k) n f i) n (wired b y₁) j) P
         by-result z again (r.Done imm us) y₁ v j o f u =
-            again y₁ j v o (f ∙ d) (subst (Owns base (lendsFrom b 0)) (sym f) s)
-            (u .0, partly-step b k t (postedAs (y .toggle) (withInOf (b .held) (opFor e) (length (firstBlocks 63 256 k) % 2 ^ 32)) (mailAt (w .host) (filledAt 63 256 k (h .inbox)))) refl
-            (filled-is k (h .inbox) (q .inbox)) e refl (v .card .held) (u .1))
+            again y₁ j v o (f ∙ d) (subst (Owns base (lendsFrom b 0)) (sym f) s) (
+              u .0,
+              partly-step b k t (postedAs (y .toggle) (withInOf (b .held) (opFor e) (length (firstBlocks 63 256 k) % 2 ^ 32)) (mailAt (w .host) (filledAt 63 256 k (h .inbox)))) refl
+                  (filled-is k (h .inbox) (q .inbox)) e refl (v .card .held) (u .1),
+            )
         by-result z again (r.Status n₁ us) y₁ v j o f u =
             safe-failed base P back kept (r.Status n₁ us) (failureOf (r.Status n₁ us)) n b y₁ j v
             (postedAs (y .toggle) (withInOf (b .held) (opFor e) (length (firstBlocks 63 256 k) % 2 ^ 32)) (mailAt (w .host) (filledAt 63 256 k (h .inbox)))) (Partly e b k) Calm refl o (subst (Owns base (lendsFrom b 0)) (sym f) s) i owed u
@@ -260,14 +262,17 @@ module _ (base : ℕ → Option Hold) (P : World → Rest → Type 1)
     boxes = boxed b (withFa b z) w (x .boxes) refl refl;
     entries = record { room = i .room; small = i .small; addressed = i .addressed };
     cut = cut-absent bytes z (x .pages) (x .sound);
-    card = (x .card .0, record {
-      lower = λ y d u. x .card .1 .icm y d .0 u;
-      total = λ y d u. inl (x .card .1 .icm y d .1 u);
-      firmware = λ d u. absurd (subst (λ (s : _). OnSlot s d) e (x .card .1 .firmware d u));
-      auxiliary = x .card .1 .auxiliary;
-      lent = x .card .1 .lent;
-      ahead = λ y d u. blocks-meet bytes z (x .pages) (x .sound) y d u;
-    });
+    card = (
+      x .card .0,
+      record {
+        lower = λ y d u. x .card .1 .icm y d .0 u;
+        total = λ y d u. inl (x .card .1 .icm y d .1 u);
+        firmware = λ d u. absurd (subst (λ (s : _). OnSlot s d) e (x .card .1 .firmware d u));
+        auxiliary = x .card .1 .auxiliary;
+        lent = x .card .1 .lent;
+        ahead = λ y d u. blocks-meet bytes z (x .pages) (x .sound) y d u;
+      },
+    );
   }
 
   pub enters-aux : (bytes : ℕ) (n : Info) (b : Books) (z : Buffer) (w : World) → b .held .aux ≡ o.Absent → Entries b → Grown bytes z b w → Entered a.Aux n z b (withAux b z) w
@@ -277,14 +282,17 @@ module _ (base : ℕ → Option Hold) (P : World → Rest → Type 1)
     boxes = boxed b (withAux b z) w (x .boxes) refl refl;
     entries = record { room = i .room; small = i .small; addressed = i .addressed };
     cut = cut-absent bytes z (x .pages) (x .sound);
-    card = (x .card .0, record {
-      lower = λ y d u. x .card .1 .icm y d .0 u;
-      total = λ y d u. inl (x .card .1 .icm y d .1 u);
-      firmware = x .card .1 .firmware;
-      auxiliary = λ d u. absurd (subst (λ (s : _). OnSlot s d) e (x .card .1 .auxiliary d u));
-      lent = x .card .1 .lent;
-      ahead = λ y d u. blocks-meet bytes z (x .pages) (x .sound) y d u;
-    });
+    card = (
+      x .card .0,
+      record {
+        lower = λ y d u. x .card .1 .icm y d .0 u;
+        total = λ y d u. inl (x .card .1 .icm y d .1 u);
+        firmware = x .card .1 .firmware;
+        auxiliary = λ d u. absurd (subst (λ (s : _). OnSlot s d) e (x .card .1 .auxiliary d u));
+        lent = x .card .1 .lent;
+        ahead = λ y d u. blocks-meet bytes z (x .pages) (x .sound) y d u;
+      },
+    );
   }
 
   pub enters-range : (n : Info) (i : ℕ) (b : Books) (z : Buffer) (w : World) → Placed (rangeAt n i .virt) (rangeAt n i .bytes) → b .lists .ranges < 14 → Entries b → Grown (rangeAt n i .bytes) z b w
@@ -302,14 +310,17 @@ module _ (base : ℕ → Option Hold) (P : World → Rest → Type 1)
         entries = ranged-entries b j l (entryOf (rangeAt n i .virt) z) (omega (arith, f .1, place .few)) (omega (arith, place .below));
         cut = cutting (v.At (rangeAt n i .virt)) (z .dev) (z .pages % 2 ^ 52) (place .page) (s .aligned) (device-end z s e)
             (omega (arith, e, f .1, place .few, place .below));
-        card = (x .card .0, record {
-          lower = λ y d u. in-old b j l (entryOf (rangeAt n i .virt) z) y d (x .card .1 .icm y d .0 u);
-          total = λ y d u. ⊎-elim (λ t. inl (x .card .1 .icm y d .1 t)) (λ t. inr (missing y d e t)) (in-either b j l (entryOf (rangeAt n i .virt) z) y d u);
-          firmware = x .card .1 .firmware;
-          auxiliary = x .card .1 .auxiliary;
-          lent = x .card .1 .lent;
-          ahead = λ y d u. in-new b j l (entryOf (rangeAt n i .virt) z) y d (found y d e u);
-        });
+        card = (
+          x .card .0,
+          record {
+            lower = λ y d u. in-old b j l (entryOf (rangeAt n i .virt) z) y d (x .card .1 .icm y d .0 u);
+            total = λ y d u. ⊎-elim (λ t. inl (x .card .1 .icm y d .1 t)) (λ t. inr (missing y d e t)) (in-either b j l (entryOf (rangeAt n i .virt) z) y d u);
+            firmware = x .card .1 .firmware;
+            auxiliary = x .card .1 .auxiliary;
+            lent = x .card .1 .lent;
+            ahead = λ y d u. in-new b j l (entryOf (rangeAt n i .virt) z) y d (found y d e u);
+          },
+        );
       }
     where
       missing : (y d : ℕ) → z .pages % 2 ^ 52 ≡ z .pages → OnRange (entryOf (rangeAt n i .virt) z) y d → AnyIn (blocksIn 63 (cutterFor n (a.Range i) z)) y d

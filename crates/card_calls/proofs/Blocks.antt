@@ -71,12 +71,11 @@ carries p bs l k m q x d = (forth, back)
 
     back : AnyIn bs x d → Blocks p x d
     back z =
-        let y = in-table (blockIn (mailboxOf bs)) 0 (length bs) x d (subst (λ (t : Type 0). t) (sym same) z) in
-        (
+        let y = in-table (blockIn (mailboxOf bs)) 0 (length bs) x d (subst (λ (t : Type 0). t) (sym same) z) in (
           y .0,
           subst (λ (n : ℕ). y .0 < n) (sym count) (y .1),
           subst (λ (w : List ℕ). InBlock (c.blockAt w (y .0)) x d) (sym q)
-          (subst (λ (t : Type 0). t) (read-same (mailboxOf bs) (y .0) x d) (subst (λ (n : ℕ). InCut (blockIn (mailboxOf bs) n) x d) (zero-plus (y .0)) (y .2))),
+              (subst (λ (t : Type 0). t) (read-same (mailboxOf bs) (y .0) x d) (subst (λ (n : ℕ). InCut (blockIn (mailboxOf bs) n) x d) (zero-plus (y .0)) (y .2))),
         )
 
 length-list : (s : List ℕ) (k : ℕ) (bs : List Block) → length (listAt s k bs) ≡ length s

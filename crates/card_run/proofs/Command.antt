@@ -168,16 +168,48 @@ module _ (catas : Catas) (i : List ℕ) (t : Bool) (o : Post) (l : Host) (imm : 
     w,
     says-read 0 0x80698 (word (not t)) (word-small (not t)),
     ((same, λ c d. shows (w .card) (not t) (k .pending) (k .status) (k .last)), refl),
-    can-false w Q (pendingIn (word (not t)) t) _ _ (ap (pendingIn (word (not t))) (sym (not-not t)) ∙ word-done (not t))
-    (
-      good tt, w1, (an.Done, [], refl), ((w .card, same, same), refl),
-      (good tt, w2, (an.Done, [], refl), ((w1 .card, same, same), refl),
-      (good tt, w3, (an.Done, [], refl), ((w2 .card, same, same), refl),
-      (good tt, w4, (an.Done, [], refl), ((w3 .card, same, same), refl),
-      (good tt, w5, (an.Done, [], refl), ((w4 .card, same, same), refl),
-      (good tt, w6, (an.Done, [], refl), ((w5 .card, same, same), refl),
-      (tt, record { card = fenced (w6 .card) (mailAt (w .host) i); host = w .host }, (an.Done, [], refl), ((w6 .card, same, refl), refl),
-      can-start _ a b e)))))),
+    can-false w Q (pendingIn (word (not t)) t) _ _ (ap (pendingIn (word (not t))) (sym (not-not t)) ∙ word-done (not t)) (
+      good tt,
+      w1,
+      (an.Done, [], refl),
+      ((w .card, same, same), refl),
+      (
+        good tt,
+        w2,
+        (an.Done, [], refl),
+        ((w1 .card, same, same), refl),
+        (
+          good tt,
+          w3,
+          (an.Done, [], refl),
+          ((w2 .card, same, same), refl),
+          (
+            good tt,
+            w4,
+            (an.Done, [], refl),
+            ((w3 .card, same, same), refl),
+            (
+              good tt,
+              w5,
+              (an.Done, [], refl),
+              ((w4 .card, same, same), refl),
+              (
+                good tt,
+                w6,
+                (an.Done, [], refl),
+                ((w5 .card, same, same), refl),
+                (
+                  tt,
+                  record { card = fenced (w6 .card) (mailAt (w .host) i); host = w .host },
+                  (an.Done, [], refl),
+                  ((w6 .card, same, refl), refl),
+                  can-start _ a b e,
+                ),
+              ),
+            ),
+          ),
+        ),
+      ),
     ),
   )
     where

@@ -48,5 +48,5 @@ module _ {A R : Type 0} (K : A → Here → Course R) (M : World → A → Type 
     an,
     st,
     subst (λ (j : Here). CanCourse v (run neither (g r) K j) P) (sym (untouched q r (lent h m)))
-    (subst (λ (z : List ℕ). CanCourse v (run neither (g r) K (here z (m .outbox) (m .undo))) P) (sym e) (on (g r) v x k)),
+        (subst (λ (z : List ℕ). CanCourse v (run neither (g r) K (here z (m .outbox) (m .undo))) P) (sym e) (on (g r) v x k)),
   )

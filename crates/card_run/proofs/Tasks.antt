@@ -109,10 +109,43 @@ pub record Barless (w v : World) (x : Found) : Type 1 where
 
 pub can-finding : (w : World) → Can w u.finding (Barless w)
 unfolding u.reading bars
-can-finding w =
-    (good 0, w, (an.Dword 0, [], refl), (same, refl), (good 0, w, (an.Dword 0, [], refl), (same, refl), (good 0, w, (an.Dword 0, [], refl), (same, refl), 
-    (good 0, w, (an.Dword 0, [], refl), (same, refl), (good 0, w, (an.Dword 0, [], refl), (same, refl), (good 0, w, (an.Dword 0, [], refl), (same, refl), 
-    (failed, w, (an.Failed, [], refl), (same, refl), record { bar = _; so = refl; size = refl; world = refl })))))))
+can-finding w = (
+  good 0,
+  w,
+  (an.Dword 0, [], refl),
+  (same, refl),
+  (
+    good 0,
+    w,
+    (an.Dword 0, [], refl),
+    (same, refl),
+    (
+      good 0,
+      w,
+      (an.Dword 0, [], refl),
+      (same, refl),
+      (
+        good 0,
+        w,
+        (an.Dword 0, [], refl),
+        (same, refl),
+        (
+          good 0,
+          w,
+          (an.Dword 0, [], refl),
+          (same, refl),
+          (
+            good 0,
+            w,
+            (an.Dword 0, [], refl),
+            (same, refl),
+            (failed, w, (an.Failed, [], refl), (same, refl), record { bar = _; so = refl; size = refl; world = refl }),
+          ),
+        ),
+      ),
+    ),
+  ),
+)
 
 -- THE FIRST LOOK
 pub can-looking : (w : World) → w .card .pending ≡ none → w .card .last ≡ none → Can w looking (So (firstToggle 0) w)
@@ -194,12 +227,12 @@ module _ (n a pages : ℕ) (fits : a + pages ≤ 2 ^ 52) (w : World) (r : Room n
       (an.Mapped (a * 4096) (pages * 4096), [], refl),
       (same, (unused, refl)),
       subst (λ (b : Bool).
-      Can (record { card = w .card; host = placed })
-      (byOutcome (pick {A = Outcome (Unit {0})} b (value tt) (refused 18 []))
-      (λ x. pick (eqb (pages * 4096) (pages * 4096)) (ret (m.Ready (record { handle = n; dev = a * 4096; pages = pages }))) (release n pages (m.Refused f.Memory)))
-      (release n pages (m.Refused f.Address))) (Grew pages n a w)) (sym accepted)
-      (can-true (record { card = w .card; host = placed }) (Grew pages n a w) (eqb (pages * 4096) (pages * 4096)) _ _ (eq-eqb (pages * 4096) (pages * 4096) refl)
-      (record { made = refl; card = refl; room = record { handles = new-handle; pages = page-below } })),
+          Can (record { card = w .card; host = placed })
+          (byOutcome (pick {A = Outcome (Unit {0})} b (value tt) (refused 18 []))
+          (λ x. pick (eqb (pages * 4096) (pages * 4096)) (ret (m.Ready (record { handle = n; dev = a * 4096; pages = pages }))) (release n pages (m.Refused f.Memory)))
+          (release n pages (m.Refused f.Address))) (Grew pages n a w)) (sym accepted)
+          (can-true (record { card = w .card; host = placed }) (Grew pages n a w) (eqb (pages * 4096) (pages * 4096)) _ _ (eq-eqb (pages * 4096) (pages * 4096) refl)
+          (record { made = refl; card = refl; room = record { handles = new-handle; pages = page-below } })),
     ),
   )
 

@@ -256,13 +256,13 @@ module _ (k : Host) (log : k .log ≡ []) (in-none : k .inbox ≡ none) (out-non
       }
 
       by-stage : (st : Stage) → x .session .stage ≡ st → GoodAt base st x
-      by-stage g.Fresh e = record { }
+      by-stage g.Fresh e = record {}
       by-stage g.Open e = exact (at-stage x g.Open e refl i)
       by-stage g.Ended e =
           ended-good x (x .session .closing) (i .balanced) (subst (λ (st : Stage). HeldAt st (x .session .closing) (x .world .host ≡ x .began)) e (i .held)) (at-stage x g.Ended e refl i)
-      by-stage (g.Prepare y) e = record { }
-      by-stage (g.Boot y) e = record { }
-      by-stage (g.Close y) e = record { }
+      by-stage (g.Prepare y) e = record {}
+      by-stage (g.Boot y) e = record {}
+      by-stage (g.Close y) e = record {}
 
   -- A REFUSED CALL leaves everything; a pending command may end
   refused : (x : Stand) (e : Event) (y : Stand) (z : Refusal) → turn (x .session) e .session ≡ x .session → turn (x .session) e .refusal ≡ f.By z → Inv base k x → Step x e y
@@ -348,7 +348,7 @@ module _ (k : Host) (log : k .log ≡ []) (in-none : k .inbox ≡ none) (out-non
             (subst (Owns base (lendsFrom (x .session .books) 0)) (sym (rests .1)) (was .owns))
             (λ z. (
               within-more (Knows (x .session .books)) (OwedBy (x .session .books)) Calm (λ p. Unit {0}) (y .world .card) (λ h s. knows-owed (x .session .books) h (was .entries) s) (λ p s. tt)
-              (within-stable (Knows (x .session .books)) Calm (x .world .card) (y .world .card) (rests .0) (was .card)),
+                  (within-stable (Knows (x .session .books)) Calm (x .world .card) (y .world .card) (rests .0) (was .card)),
               λ s. none-settled (x .world .card) (y .world .card) (rests .0) (was .quiet s),
             ))));
         balanced = subst (Balanced base) (sym (rests .1)) (i .balanced);
@@ -395,8 +395,8 @@ module _ (k : Host) (log : k .log ≡ []) (in-none : k .inbox ≡ none) (out-non
             al,
             (
               subst (λ (z : Course Rest). SafeCourse v z (Post base k))
-              (sym (subst (λ (z : Option (Reply q)). Right z (λ r. courseOf (stepOf (x .session) a res n o u .session) (hereAfter (x .session) a res h₁ m) ≡ d r m) (Unit {0})) e (fol .2 a res m)))
-              (s .1 r m v ok st),
+                  (sym (subst (λ (z : Option (Reply q)). Right z (λ r. courseOf (stepOf (x .session) a res n o u .session) (hereAfter (x .session) a res h₁ m) ≡ d r m) (Unit {0})) e (fol .2 a res m)))
+                  (s .1 r m v ok st),
               step-balanced base q r n (x .world) v al st (i .balanced),
             ),
           )) r e₂ st
@@ -448,7 +448,7 @@ module _ (k : Host) (log : k .log ≡ []) (in-none : k .inbox ≡ none) (out-non
       answered-by : answerable (x .session) a ≡ true → isLent n o u ≡ true → Step x (event (callAnswer a res) n o u) y → QuestionKept x (event (callAnswer a res) n o u) × Inv base k y
       answered-by d b st = (
         subst (λ (h : Failure). QuestionBy h (callAnswer a res) (x .session) n (x .world)) (sym (ap (λ (h : Turn). h .refusal) turned ∙ taken))
-        (λ p e. subst (λ (z : Ask). Allowed n (x .world) z) (Option·some-injective (world .0) p (sym (world .2) ∙ e)) (done .0)),
+            (λ p e. subst (λ (z : Ask). Allowed n (x .world) z) (Option·some-injective (world .0) p (sym (world .2) ∙ e)) (done .0)),
         record {
           there = hereAfter (x .session) a res h₁ m;
           box = sym (st .left ∙ ap (λ (h : Failure). boxLeft h (answerIn (x .session) a res n o u) (x .inbox)) (ap (λ (h : Turn). h .refusal) turned ∙ taken) ∙ boxed);
