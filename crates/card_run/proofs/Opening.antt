@@ -8,7 +8,7 @@ use mathlib.Core.Option.{Option, some, none, Option·none-ne-some}
 use mathlib.Core.Path.{_≡_, refl, sym, _∙_, ap, subst}
 use lib.Dec.{eqb, ltb, leb, lit≤}
 use borrow.Author.Tests.{eq-eqb, le-leb, ltb-true}
-use lib.ListN.{length, getD, set, replicate}
+use lib.ListN.{length, getD, set, replicate, length-replicate}
 use Rattle.fields.specs.Outcome.{Outcome, value, refused, pick}
 use Rattle.fields.specs.Fields.{digits, putDigits}
 use Rattle.fields.proofs.Laws.{Bytes}
@@ -61,11 +61,11 @@ use Rattle.closing.specs.Closing.{isDone, parted}
 use Rattle.opening.specs.Values.{needsReset, failureOf, faultOf, fwFailureOf, immediateOf, layoutIn, rangeAt, withToggle, withCatas, withInbox, withOutbox, withOriginal, nowStarted, opFor, enters, cutterFor, withUar, withRevision, withCap}
 use Rattle.opening.specs.Opening.{fails, failsBy, brokenBy, onGood, onValue, holds, onMade, opened, queryAdapter, queryFunc, initHca, mapping, areaFor, mapIcm, setIcmSize, layingOut, queryPorts, portsOf, queryDevCap, modStat, runFw, fwReply, queryFw, look, giveInbox, makeOutbox, makeInbox, onFound, findUar, firstReset, onClaimed, claim, onEnabled, enable, opening}
 use Rattle.card.specs.Card.{Card, holds as holding, No, Host, World, WorldStep}
-use Rattle.card_calls.specs.SafeCourse.{Typed, Lendable}
+use Rattle.card_calls.specs.SafeCourse.{Lendable}
 use Rattle.card_calls.proofs.Courses.{untouched}
 use Rattle.card_calls.proofs.Areas.{Placed, pages-few}
 use Rattle.card_calls.proofs.Opening.{Laid, Capped, capped-laid}
-use Rattle.card_run.specs.Can.{Can, CanCourse}
+use Rattle.card_run.specs.Can.{Can, Whole, CanCourse}
 use Rattle.card_run.proofs.Command.{Idle, Well, can-command}
 use Rattle.card_run.proofs.Tasks.{So, Barless, Room, Grew, cleared, can-attributing, can-claiming, can-reset, can-finding, can-looking, can-making}
 
@@ -93,9 +93,25 @@ no-top = record { count = 0; op = 0; «op_mod» = 0; «in_mod» = 0; «in_param�
 abbrev lends : List ℕ → Lent
 lends out = record { outbox = out; undo = no-top }
 
-lendable : (out : List ℕ) → Bytes out → Lendable (lends out)
+lendable : (out : List ℕ) → Bytes out → length out ≡ 4096 → Whole (lends out)
 unfolding no-top
-lendable out b = record { outbox = b; undo = record { opMod = omega arith; inMod = omega arith; inParam = omega arith } }
+lendable out b l =
+    record { lendable = record { outbox = b; undo = record { opMod = omega arith; inMod = omega arith; inParam = omega arith } }; outbox = l; undo = refl }
+
+zeros : (n : ℕ) → Bytes (replicate n 0)
+zeros zero k = let h : 0 < 256 = omega arith in h
+zeros (suc n) zero = let h : 0 < 256 = omega arith in h
+zeros (suc n) (suc k) = zeros n k
+
+-- an outbox with nothing in it
+abbrev empty : List ℕ
+empty = replicate 4096 0
+
+nil : Bytes empty
+nil = zeros 4096
+
+empty-length : length empty ≡ 4096
+empty-length = length-replicate {A = ℕ} 4096 0
 
 -- the end that is meant
 pub record IsOpen (w : World) (x : Rest) : Type 1 where
@@ -109,46 +125,38 @@ IsAsk (s.ask q k) = Unit {0}
 module _ {A : Type 0} (K : A → Here → Course Rest) (M : World → A → Type 1) where
   can-run : (b : Box) (t : Script A) (h : Here) (w : World) → Can w t M → ((v : World) (x : A) (j : Here) → M v x → CanCourse v (K x j) IsOpen) → CanCourse w (run b t K h) IsOpen
   can-run b (s.ret x) h w y k = k w x h y
-  can-run b (s.ask q d) h w (r, v, an, st, y) k = (r, lends [], v, lendable [] (λ n. let e : 0 < 256 = omega arith in e), an, st, can-run b (d r) (touched b q r (lent h (lends []))) v y k)
+  can-run b (s.ask q d) h w (r, v, an, st, y) k = (r, lends empty, v, lendable empty nil empty-length, an, st, can-run b (d r) (touched b q r (lent h (lends empty))) v y k)
 
   -- with this outbox lent at every reply
-  module _ (out : List ℕ) (ok : Bytes out) where
+  module _ (out : List ℕ) (ok : Bytes out) (l : length out ≡ 4096) where
     on : (t : Script A) (i : List ℕ) (w : World) → Can w t M → ((v : World) (x : A) → M v x → CanCourse v (K x (here i out no-top)) IsOpen) → CanCourse w (run neither t K (here i out no-top)) IsOpen
     on (s.ret x) i w y k = k w x y
     on (s.ask q d) i w (r, v, an, st, y) k =
-        (r, lends out, v, lendable out ok, an, st, subst (λ (j : Here). CanCourse v (run neither (d r) K j) IsOpen) (sym (untouched q r (here i out no-top))) (on (d r) i v y k))
+        (r, lends out, v, lendable out ok l, an, st, subst (λ (j : Here). CanCourse v (run neither (d r) K j) IsOpen) (sym (untouched q r (here i out no-top))) (on (d r) i v y k))
 
     can-task : (t : Script A) → IsAsk t → (h : Here) (w : World) → Can w t M → ((v : World) (x : A) → M v x → CanCourse v (K x (here (h .inbox) out no-top)) IsOpen) → CanCourse w (task t K h) IsOpen
     can-task (s.ret x) e h w y k = absurd e
     can-task (s.ask q d) e h w (r, v, an, st, y) k =
-        (r, lends out, v, lendable out ok, an, st, subst (λ (j : Here). CanCourse v (run neither (d r) K j) IsOpen) (sym (untouched q r (lent h (lends out)))) (on (d r) (h .inbox) v y k))
+        (r, lends out, v, lendable out ok l, an, st, subst (λ (j : Here). CanCourse v (run neither (d r) K j) IsOpen) (sym (untouched q r (lent h (lends out)))) (on (d r) (h .inbox) v y k))
 
 -- A COMMAND, with its reply
-can-sends : (imm : ℕ) → imm < 2 ^ 32 → (out : List ℕ) → Bytes out → (b : Books) (p : Post) (K : CmdResult → Books → Here → Course Rest) (h : Here) (w : World) → p .op < 0x1000 → p .«op_mod» < 0x100
+can-sends : (imm : ℕ) → imm < 2 ^ 32 → (out : List ℕ) → Bytes out → length out ≡ 4096 → (b : Books) (p : Post) (K : CmdResult → Books → Here → Course Rest) (h : Here) (w : World) → p .op < 0x1000 → p .«op_mod» < 0x100
     → Idle (b .wire .toggle) (w .card)
     → ((us : ℕ) (d : Books) (v : World) → Idle (d .wire .toggle) (v .card) → v .host ≡ w .host → CanCourse v (K (r.Done (0 * 2 ^ 32 + imm) us) d (here (h .inbox) out no-top)) IsOpen)
     → CanCourse w (sends b p K h) IsOpen
 unfolding command
-can-sends imm small out ok b p K h w o q i k =
-    can-task (λ e j. K (e .result) (wired b (after (b .wire) e)) j) (Well imm (b .wire .toggle) (w .host)) out ok (command (catasFor (b .wire)) (h .inbox) (b .wire .toggle) p) tt h w
+can-sends imm small out ok l b p K h w o q i k =
+    can-task (λ e j. K (e .result) (wired b (after (b .wire) e)) j) (Well imm (b .wire .toggle) (w .host)) out ok l (command (catasFor (b .wire)) (h .inbox) (b .wire .toggle) p) tt h w
     (can-command (catasFor (b .wire)) (h .inbox) (b .wire .toggle) p (w .host) imm small w o q refl i)
     (λ v e x.
     subst (λ (y : CmdResult). CanCourse v (K y (wired b (after (b .wire) e)) (here (h .inbox) out no-top)) IsOpen) (sym (x .result))
     (k (x .us) (wired b (after (b .wire) e)) v (subst (λ (y : Bool). Idle y (v .card)) (sym (x .toggle)) (x .idle)) (x .host)))
 
-zeros : (n : ℕ) → Bytes (replicate n 0)
-zeros zero k = let h : 0 < 256 = omega arith in h
-zeros (suc n) zero = let h : 0 < 256 = omega arith in h
-zeros (suc n) (suc k) = zeros n k
-
-nil : Bytes []
-nil k = let h : 0 < 256 = omega arith in h
-
 -- BRING-UP, from its end
 can-adapter : (n : Info) (b : Books) (h : Here) (w : World) → Idle (b .wire .toggle) (w .card) → CanCourse w (queryAdapter n b h) IsOpen
 unfolding queryAdapter
 can-adapter n b h w i =
-    can-sends 0 (omega arith) [] nil b (withOutOf (b .held) 0x006 0) (λ x d j. opened n d j) (zeroed outbox h) w (omega arith) (omega arith) i (λ us d v e s. record { stage = refl })
+    can-sends 0 (omega arith) empty nil empty-length b (withOutOf (b .held) 0x006 0) (λ x d j. opened n d j) (zeroed outbox h) w (omega arith) (omega arith) i (λ us d v e s. record { stage = refl })
 
 course-true : (b : Bool) (x y : Course Rest) (w : World) → b ≡ true → CanCourse w x IsOpen → CanCourse w (pick b x y) IsOpen
 course-true true x y w e k = k
@@ -161,7 +169,7 @@ can-func n b h w e i = course-true (eqb (n .cap .«num_sys_eqs») 0) _ _ w (eq-e
 can-init : (n : Info) (b : Books) (h : Here) (w : World) → n .cap .«num_sys_eqs» ≡ 0 → Idle (b .wire .toggle) (w .card) → CanCourse w (initHca n b h) IsOpen
 unfolding initHca
 can-init n b h w e i =
-    can-sends 0 (omega arith) [] nil b (withInOf (b .held) 0x007 0) (λ x d j. onGood x (λ q k. queryFunc n (nowStarted q) k) n d j)
+    can-sends 0 (omega arith) empty nil empty-length b (withInOf (b .held) 0x007 0) (λ x d j. onGood x (λ q k. queryFunc n (nowStarted q) k) n d j)
     (holds (filledBy (h .inbox) (fieldsOf (initOf (n .cap) (layoutIn n .rows)))) h) w (omega arith) (omega arith) i (λ us d v k s. can-func n (nowStarted d) _ v e k)
 
 op-small : (e : Area) → opFor e < 0x1000
@@ -181,7 +189,7 @@ module _ (e : Area) (next : Books → Here → Course Rest) (n : Info) (l : Host
           (holds (filledAt 63 256 x (h .inbox)) h))) IsOpen
       by-left on true = follows b h w i q
       by-left on false =
-          can-sends 0 (omega arith) [] nil b (withInOf (b .held) (opFor e) (length (firstBlocks 63 256 x) % 2 ^ 32)) (λ y d j. onGood y (λ z i. mapping e next k (behind 63 256 x) n z i) n d j)
+          can-sends 0 (omega arith) empty nil empty-length b (withInOf (b .held) (opFor e) (length (firstBlocks 63 256 x) % 2 ^ 32)) (λ y d j. onGood y (λ z i. mapping e next k (behind 63 256 x) n z i) n d j)
           (holds (filledAt 63 256 x (h .inbox)) h) w (op-small e) (omega arith) i (λ us d v j s. on d _ v (s ∙ q) j)
 
 can-area : (e : Area) (bytes pages at page : ℕ) (next : Books → Here → Course Rest) (n : Info) (b : Books) (h : Here) (w : World) → pagesFor bytes ≡ value pages → page + pages ≤ 2 ^ 52
@@ -223,7 +231,7 @@ can-size : (at page : ℕ) (n : Info) (b : Books) (h : Here) (w : World) → pag
     → CanCourse w (setIcmSize n b h) IsOpen
 unfolding setIcmSize
 can-size at page n b h w fits laid e room o =
-    can-sends 0 (omega arith) [] nil b (immOf 0xffd 0 0 (layoutIn n .total)) (λ x d j. onGood x (λ q k. areaFor a.Aux (immediateOf x * 4096) (mapIcm 14 0 n) n q k) n d j) h w (omega arith) (omega arith) o
+    can-sends 0 (omega arith) empty nil empty-length b (immOf 0xffd 0 0 (layoutIn n .total)) (λ x d j. onGood x (λ q k. areaFor a.Aux (immediateOf x * 4096) (mapIcm 14 0 n) n q k) n d j) h w (omega arith) (omega arith) o
     (λ us d v i s. can-area a.Aux 0 1 at page (mapIcm 14 0 n) n d _ v refl (omega (arith, fits)) (subst (Room at page) (sym s) room) i
     (λ y j u k x. can-ranges 14 0 (suc at) (page + 1) n y j u refl fits laid e x k))
 
@@ -237,6 +245,10 @@ capReply = inputL ++ replicate 3928 0
 cap-bytes : Bytes capReply
 unfolding below digits putDigits
 cap-bytes = below-at capReply refl
+
+cap-length : length capReply ≡ 4096
+unfolding digits putDigits
+cap-length = refl
 
 abbrev capL : DevCap
 capL = devCapOf capReply
@@ -265,7 +277,7 @@ can-cap : (at page : ℕ) (n : Info) (b : Books) (h : Here) (w : World) → n .u
     → CanCourse w (queryDevCap n b h) IsOpen
 unfolding queryDevCap queryPorts
 can-cap at page n b h w u v fits room o =
-    can-sends 0 (omega arith) capReply cap-bytes b (withOutOf (b .held) 0x003 0)
+    can-sends 0 (omega arith) capReply cap-bytes cap-length b (withOutOf (b .held) 0x003 0)
     (λ x d j. onGood x (λ e i. onValue (capabilityOf (i .outbox) (n .uar .size)) (λ y. queryPorts (portsOf (withCap n y)) 1 (withCap n y) e i) n e i) n d j) (zeroed outbox h) w (omega arith) (omega arith) o
     (λ us d x i s. value-is (capabilityOf capReply (n .uar .size)) capL (λ y. queryPorts (portsOf (withCap n y)) 1 (withCap n y) d (here (zeroed outbox h .inbox) capReply no-top)) n d (here (zeroed outbox h .inbox) capReply no-top) x
     (ap (capabilityOf capReply) u ∙ cap-accepted)
@@ -276,14 +288,14 @@ can-stat : (at page : ℕ) (n : Info) (b : Books) (h : Here) (w : World) → n .
     → CanCourse w (modStat n b h) IsOpen
 unfolding modStat
 can-stat at page n b h w u v fits room o =
-    can-sends 0 (omega arith) [] nil b (withInOf (b .held) 0x034 0) (λ x d j. pick (needsReset x) (failsBy x n d j) (queryDevCap n d j)) (holds (filledBy (h .inbox) modStatCfg) h) w (omega arith) (omega arith) o
+    can-sends 0 (omega arith) empty nil empty-length b (withInOf (b .held) 0x034 0) (λ x d j. pick (needsReset x) (failsBy x n d j) (queryDevCap n d j)) (holds (filledBy (h .inbox) modStatCfg) h) w (omega arith) (omega arith) o
     (λ us d x i s. can-cap at page n d _ x u v fits (subst (Room at page) (sym s) room) i)
 
 can-run-fw : (at page : ℕ) (n : Info) (b : Books) (h : Here) (w : World) → n .uar .size ≡ z.Unknown → n .rev3 ≡ false → page + 1 + 14 * 2 ^ 25 ≤ 2 ^ 52 → Room at page (w .host) → Idle (b .wire .toggle) (w .card)
     → CanCourse w (runFw n b h) IsOpen
 unfolding runFw
 can-run-fw at page n b h w u v fits room o =
-    can-sends 0 (omega arith) [] nil b (immOf 0xff6 0 0 0) (λ x d j. onGood x (λ e i. modStat n e i) n d j) h w (omega arith) (omega arith) o
+    can-sends 0 (omega arith) empty nil empty-length b (immOf 0xff6 0 0 0) (λ x d j. onGood x (λ e i. modStat n e i) n d j) h w (omega arith) (omega arith) o
     (λ us d x i s. can-stat at page n d _ x u v fits (subst (Room at page) (sym s) room) i)
 
 -- THE FIRMWARE: revision 2, and no pages asked for, which is a buffer of one
@@ -294,6 +306,9 @@ fw-bytes : Bytes fwBytes
 unfolding below
 fw-bytes = below-at fwBytes refl
 
+fw-length : length fwBytes ≡ 4096
+fw-length = refl
+
 fw-accepted : (i : ℕ) → queryFwOf fwBytes i ≡ value (fwOf fwBytes i)
 unfolding digits
 fw-accepted i = refl
@@ -301,7 +316,7 @@ fw-accepted i = refl
 can-query-fw : (n : Info) (b : Books) (h : Here) (w : World) → n .uar .size ≡ z.Unknown → Room 2 2 (w .host) → Idle (b .wire .toggle) (w .card) → CanCourse w (queryFw n b h) IsOpen
 unfolding queryFw digits
 can-query-fw n b h w u room o =
-    can-sends 0 (omega arith) fwBytes fw-bytes b (withOutOf (b .held) 0x004 0) (λ x d j. pick (isDone x) (fwReply n d j) (fails (fwFailureOf x) n (brokenBy x d) j)) (zeroed outbox h) w (omega arith) (omega arith) o
+    can-sends 0 (omega arith) fwBytes fw-bytes fw-length b (withOutOf (b .held) 0x004 0) (λ x d j. pick (isDone x) (fwReply n d j) (fails (fwFailureOf x) n (brokenBy x d) j)) (zeroed outbox h) w (omega arith) (omega arith) o
     (λ us d x i s. value-is (queryFwOf fwBytes (n .uar .index)) (fwOf fwBytes (n .uar .index))
     (λ y. areaFor a.Fa (y .pages * 4096) (runFw (withRevision n (y .rev))) (withRevision n (y .rev)) (withCatas d (fwHeld fwBytes (n .uar .index))) (here (zeroed outbox h .inbox) fwBytes no-top)) n
     (withCatas d (fwHeld fwBytes (n .uar .index))) (here (zeroed outbox h .inbox) fwBytes no-top) x (fw-accepted (n .uar .index))

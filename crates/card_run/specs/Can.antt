@@ -2,7 +2,10 @@
 use Prim.Native.Nat.{ℕ}
 use mathlib.Core.List.{List}
 use mathlib.Core.Option.{some}
+use mathlib.Core.Bool.{true}
 use mathlib.Core.Path.{_≡_}
+use lib.Dec.{leb}
+use lib.ListN.{length}
 use Rattle.pci.specs.Script.{Script, Ask, Reply, replyOf}
 use Rattle.pci.specs.Script as s
 use Rattle.pci.specs.declared.Answer.{Answer}
@@ -18,6 +21,12 @@ abbrev pub Can : {R : Type 0} → World → Script R → (World → R → Type 1
 Can w (s.ret r) Q = Q w r
 Can w (s.ask q k) Q = (r : Reply q) × (v : World) × Answered q r × WorldStep w q r v × Can v (k r) Q
 
+-- what is lent is a mailbox of 4,096 bytes and at most 256 undo records
+pub record Whole (m : Lent) : Type 0 where
+  pub lendable : Lendable m
+  pub outbox : length (m .outbox) ≡ 4096
+  pub undo : leb (m .undo .count) 256 ≡ true
+
 abbrev pub CanCourse : {R : Type 0} → World → Course R → (World → R → Type 1) → Type 1
 CanCourse w (ret l r) Q = Q w r
-CanCourse w (ask q l k) Q = (r : Reply q) × (m : Lent) × (v : World) × Lendable m × Answered q r × WorldStep w q r v × CanCourse v (k r m) Q
+CanCourse w (ask q l k) Q = (r : Reply q) × (m : Lent) × (v : World) × Whole m × Answered q r × WorldStep w q r v × CanCourse v (k r m) Q
