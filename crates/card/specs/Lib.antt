@@ -1,0 +1,4 @@
+pub mod Card
+pub mod Safe
+pub mod Owns
+pub mod Known

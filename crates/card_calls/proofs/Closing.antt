@@ -1,0 +1,311 @@
+-- The course of a closing keeps to the card rules: by commands or by a reset, then all is given back, or kept if the reset failed.
+use Prim.Native.Nat.{ℕ, zero, suc, _+_, _/_, _%_, _^_, _≤_, _<_}
+use native.Mathlib.Omega.{arith}
+use mathlib.Core.Bool.{Bool, true, false, _||_, false≢true}
+use mathlib.Core.List.{List, [], _∷_}
+use mathlib.Core.Logic.{_⊎_, inl, inr, ⊎-elim}
+use mathlib.Core.Option.{Option, none}
+use mathlib.Core.Path.{_≡_, refl, sym, _∙_, ap, subst}
+use lib.Dec.{eqb, ltb}
+use borrow.Author.Tests.{ltb-false, eqb-true, eqb-false}
+use Rattle.fields.specs.Outcome.{pick}
+use Rattle.dma.specs.declared.Buffer.{Buffer}
+use Rattle.hcr.specs.Words.{isReserved, isIn, reservedOps}
+use Rattle.hcr.specs.declared.Post.{Post}
+use Rattle.command.specs.declared.CmdEnd.{CmdEnd}
+use Rattle.command.specs.declared.CmdResult.{CmdResult}
+use Rattle.command.specs.declared.CmdResult.the-variants as r
+use Rattle.reset.specs.Reset.{reset, isGood}
+use Rattle.buffer.specs.Buffer.{freeing}
+use Rattle.tasks.specs.Parting.{releasing, restoring}
+use Rattle.session.specs.Session.{wired, after, icmAt, immOf}
+use Rattle.session.specs.Course.{Course, ret, Here, here, left, sends, Rest, atRest}
+use Rattle.session.specs.declared.Icm.{Icm}
+use Rattle.session.specs.declared.Top.{Top}
+use Rattle.session.specs.declared.Wire.{Wire}
+use Rattle.session.specs.declared.Books.{Books}
+use Rattle.session.specs.declared.Info.{Info}
+use Rattle.session.specs.declared.Stage.the-variants as g
+use Rattle.session.specs.declared.Failure.{Failure}
+use Rattle.session.specs.declared.Closing.{Closing}
+use Rattle.session.specs.declared.Closing.the-variants as c
+use Rattle.closing.specs.Closing.{isDone, isHeld, lendsFrom, emptied, undoPost, popped, UNDOS, restored, parted, freed, giving, resetting, stopped, onward, unmapFa, unmapAux, unmapping, closeHca, undoing, stopping}
+use Rattle.card.specs.Card.{Held, Command, Card, Mail, Kind, Other, kind, does, effect, Holds, IsMap, StandsAt, Hold, Host, World, mailAt, store}
+use Rattle.card.specs.Owns.{Owns}
+use Rattle.card.proofs.Command.{quiet-stable, quiet-within}
+use Rattle.card.proofs.Still.{safe-still, restoring-still, safe-releasing}
+use Rattle.card.proofs.Reset.{safe-reset}
+use Rattle.card.proofs.View.{nothing-empty, other-effect}
+use Rattle.card.proofs.Owns.{safe-freeing}
+use Rattle.card_calls.specs.SafeCourse.{Typed, SafeCourse}
+use Rattle.card_calls.proofs.Courses.{Fair, safe-task, safe-sends, course-pick}
+use Rattle.card.specs.Known.{After, Clean, During, Empty, Fits, Loose, Or, Out, Quiet, ResetPost, Stable, Within, postedAs}
+use Rattle.card_calls.specs.Owed.{Dropped, Owed, OwedBy, Stoppable}
+
+false≢ : {A : Type 0} → _≡_ {A = Bool} false true → A
+false≢ e = absurd (false≢true e)
+
+owed-none : (icms : List Icm) (h : Held) → Owed icms false 0 false false h → Empty h
+owed-none icms h x = record {
+  nothing = λ d z. ⊎-elim (λ i. let y = x .icm (i .0) d (i .1) in let q : ⊥ = omega (arith, y .1) in q)
+      (λ u. ⊎-elim (λ f. false≢ (x .firmware d f)) (λ y. ⊎-elim (λ a. false≢ (x .auxiliary d a)) (λ l. false≢ (x .lent d l)) y) u) z;
+}
+
+module _ (icms : List Icm) (p : Command) where
+  owed-other : (st : Bool) (n : ℕ) (aux fa : Bool) → kind (p .opcode) ≡ Other → (k : Held) → After p (Owed icms st n aux fa) k → Owed icms st n aux fa k
+  owed-other st n aux fa o k (h, x, e) = subst (Owed icms st n aux fa) (sym (e ∙ other-effect p h o)) x
+
+  owed-close : (st : Bool) (n : ℕ) (aux fa : Bool) → p .opcode ≡ 0x008 → (k : Held) → After p (Owed icms st n aux fa) k → Owed icms false n aux fa k
+  unfolding effect
+  owed-close st n aux fa o k (h, x, e) =
+      subst (Owed icms false n aux fa) (sym (e ∙ ap (λ (y : ℕ). does (kind y) p h) o)) (record { icm = x .icm; firmware = x .firmware; auxiliary = x .auxiliary; lent = λ d z. absurd z })
+
+  owed-aux : (fa : Bool) → p .opcode ≡ 0xffb → (k : Held) → After p (Owed icms false 0 true fa) k → Owed icms false 0 false fa k
+  unfolding effect
+  owed-aux fa o k (h, x, e) =
+      subst (Owed icms false 0 false fa) (sym (e ∙ ap (λ (y : ℕ). does (kind y) p h) o)) (record { icm = x .icm; firmware = x .firmware; auxiliary = λ d z. absurd z; lent = x .lent })
+
+  owed-fa : p .opcode ≡ 0xffe → (k : Held) → After p (Owed icms false 0 false true) k → Owed icms false 0 false false k
+  unfolding effect
+  owed-fa o k (h, x, e) =
+      subst (Owed icms false 0 false false) (sym (e ∙ ap (λ (y : ℕ). does (kind y) p h) o)) (record { icm = x .icm; firmware = λ d z. absurd z; auxiliary = x .auxiliary; lent = x .lent })
+
+  owed-unmap : (n : ℕ) (aux fa : Bool) → p .opcode ≡ 0xff9 → p .inMod ≡ icmAt icms n .pages % 2 ^ 32 → p .inParam ≡ icmAt icms n .virt
+      → (k : Held) → After p (Owed icms false (suc n) aux fa) k → Owed icms false n aux fa k
+  unfolding effect
+  owed-unmap n aux fa o m q k (h, x, e) =
+      subst (Owed icms false n aux fa) (sym (e ∙ ap (λ (y : ℕ). does (kind y) p h) o)) (record {
+        icm = λ v d z. let y = x .icm v d (z .0) in older v (z .1) (y .0) (y .1) (y .2) (eqb (y .0) n) refl;
+        firmware = x .firmware;
+        auxiliary = x .auxiliary;
+        lent = x .lent;
+      })
+    where
+      older : (v : ℕ) → ((p .inParam / 4096 ≤ v) × (v < p .inParam / 4096 + p .inMod) → ⊥) → (j : ℕ) → j < suc n → Dropped (icmAt icms j) v → (t : Bool) → eqb j n ≡ t
+          → (j : ℕ) × (j < n) × Dropped (icmAt icms j) v
+      older v away j less d true t =
+          let same = eqb-true j n t in
+          let f = subst (λ (y : ℕ). Dropped (icmAt icms y) v) same d in
+          absurd (away (rw (m, q) f))
+      older v away j less d false t = let n′ = eqb-false j n t in (j, below j less n′, d)
+        where
+          below : (j : ℕ) → j < suc n → (j ≡ n → ⊥) → j < n
+          below j a b = omega (arith, a, b)
+
+-- AN UNDO RECORD is a command of no effect: its opcode is none that bring-up or closing sends
+or-left : (a b : Bool) → (a || b) ≡ false → a ≡ false
+or-left true b e = e
+or-left false b e = refl
+
+or-right : (a b : Bool) → (a || b) ≡ false → b ≡ false
+or-right true b e = absurd (false≢true (sym e))
+or-right false b e = e
+
+abbrev Outside : ℕ → List ℕ → Type 0
+Outside n [] = Unit {0}
+Outside n (x ∷ xs) = (eqb n x ≡ false) × Outside n xs
+
+outside : (n : ℕ) (xs : List ℕ) → isIn n xs ≡ false → Outside n xs
+unfolding isIn
+outside n [] e = tt
+outside n (x ∷ xs) e = (or-left (eqb n x) (isIn n xs) e, outside n xs (or-right (eqb n x) (isIn n xs) e))
+
+pub unreserved-small : (n : ℕ) → isReserved n ≡ false → n < 0x1000
+unreserved-small n e = let l = ltb-false 0xfff n (or-left (ltb 0xfff n) (isIn n reservedOps) e) in omega (arith, l)
+
+pub unreserved-other : (n : ℕ) → isReserved n ≡ false → kind n ≡ Other
+unreserved-other n e =
+    let o = outside n reservedOps (or-right (ltb 0xfff n) (isIn n reservedOps) e) in
+    rw (o .1 .1 .1 .1 .1 .1 .1 .1 .1 .1 .0, o .1 .1 .1 .1 .1 .1 .1 .1 .1 .0, o .1 .1 .1 .1 .1 .1 .1 .0, o .1 .1 .1 .1 .1 .1 .0, o .1 .1 .1 .1 .1 .0, o .1 .1 .1 .1 .0, o .1 .0) refl
+
+fits-undo : (u : Top) (m : Mail) → Typed u → isReserved (u .op) ≡ false → Fits (undoPost u) m
+fits-undo u m t e = record {
+  op = unreserved-small (u .op) e;
+  opMod = t .opMod;
+  inMod = t .inMod;
+  inParam = t .inParam;
+  outParam = omega arith;
+  addressed = λ z. absurd (subst IsMap (unreserved-other (u .op) e) z);
+}
+
+fits-imm : (op n x : ℕ) (m : Mail) → op < 0x1000 → (IsMap (kind op) → ⊥) → n < 2 ^ 32 → x < 2 ^ 64 → Fits (immOf op 0 n x) m
+fits-imm op n x m a never b d = record { op = a; opMod = omega arith; inMod = b; inParam = d; outParam = omega arith; addressed = λ z. absurd (never z) }
+
+-- a closing that gives back is not one that keeps
+pub clean-differs : c.Clean ≡ c.Kept → ⊥
+clean-differs e = subst (λ (x : Closing). IsClean x) e tt
+  where
+    IsClean : Closing → Type 0
+    IsClean c.Clean = Unit {0}
+    IsClean c.Reset = ⊥
+    IsClean c.Kept = ⊥
+
+reset-differs : c.Reset ≡ c.Kept → ⊥
+reset-differs e = subst (λ (x : Closing). IsReset x) e tt
+  where
+    IsReset : Closing → Type 0
+    IsReset c.Clean = ⊥
+    IsReset c.Reset = Unit {0}
+    IsReset c.Kept = ⊥
+
+-- THE END OF A CLOSING: `back` and `kept` are what is to hold when all was given back, and when all was kept
+module _ (n : Info) (f : Failure) (P : World → Rest → Type 1) where
+  -- the owner is released and the attributes are restored; what is known of the card is stable, and does not speak of registers
+  module _ (l : Host) (I : Card → Type 1) (stable : Stable I) (stores : (k : Card) (o v : ℕ) → I k → I (store k o v)) (x : Closing) (b : Books)
+      (ends : (v : World) → v .host ≡ l → I (v .card) → P v (atRest g.Ended b n f x)) where
+    pub safe-restored : (h : Here) (w : World) → Fair h → w .host ≡ l → I (w .card) → SafeCourse w (restored n f x b h) P
+    unfolding restored
+    safe-restored h w q e i =
+        safe-task (λ y k. ret (left k) (atRest g.Ended b n f x)) (λ v u. (v .host ≡ l) × I (v .card)) P (restoring (b .original)) h w q
+        (safe-still (h .inbox) (restoring (b .original)) I l w (restoring-still (b .original)) stable e i) (λ v a j k d m. ends v (m .0) (m .1))
+
+    pub safe-parted : (h : Here) (w : World) → Fair h → w .host ≡ l → I (w .card) → SafeCourse w (parted n f x b h) P
+    unfolding parted
+    safe-parted h w q e i =
+        safe-task (λ y k. restored n f x b k) (λ v u. (v .host ≡ l) × I (v .card)) P releasing h w q
+        (safe-releasing (h .inbox) I l stable stores w e i) (λ v a j k d m. safe-restored j v k (m .0) (m .1))
+
+  module _ (base : ℕ → Option Hold) where
+    safe-freed : (bs : List Buffer) (k : Here → Course Rest) → ((j : Here) (v : World) → Fair j → Owns base [] (v .host) → Quiet Empty (v .card) → SafeCourse v (k j) P)
+        → (h : Here) (w : World) → Fair h → Owns base bs (w .host) → Quiet Empty (w .card) → SafeCourse w (freed n f bs k h) P
+    unfolding freed
+    safe-freed [] k next h w q x e = next h w q x e
+    safe-freed (b ∷ bs) k next h w q x e =
+        safe-task (λ u j. freed n f bs k j) (λ v u. Owns base bs (v .host) × Quiet Empty (v .card)) P (freeing (b .handle) (b .pages)) h w q
+        (safe-freeing (h .inbox) base b bs w x e) (λ v a j d i m. safe-freed bs k next j v d (m .0) (m .1))
+
+    quiet-store : (k : Card) (o v : ℕ) → Quiet Empty k → Quiet Empty (store k o v)
+    quiet-store k o v q = q
+
+    -- all these are freed, and the card is given up
+    pub safe-all-freed : (bs : List Buffer) (x : Closing) (b : Books) → ((v : World) → Owns base [] (v .host) → Quiet Empty (v .card) → P v (atRest g.Ended b n f x))
+        → (h : Here) (w : World) → Fair h → Owns base bs (w .host) → Quiet Empty (w .card) → SafeCourse w (freed n f bs (λ k. parted n f x b k) h) P
+    safe-all-freed bs x b back h w q o e =
+        safe-freed bs (λ k. parted n f x b k)
+        (λ j v d y z. safe-parted (v .host) (Quiet Empty) (quiet-stable Empty) quiet-store x b (λ u a m. back u (subst (Owns base []) (sym a) y) m) j v d refl z) h w q o e
+
+    module _ (l : Host) (back : (x : Closing) (b : Books) (v : World) → (x ≡ c.Kept → ⊥) → Owns base [] (v .host) → Quiet Empty (v .card) → P v (atRest g.Ended (emptied b) n f x))
+        (kept : (b : Books) (v : World) → Owns base (lendsFrom b 0) (v .host) → v .host ≡ l → P v (atRest g.Ended b n f c.Kept)) where
+      safe-giving : (x : Closing) (b : Books) (h : Here) (w : World) → (x ≡ c.Kept → ⊥) → Fair h → Owns base (lendsFrom b 0) (w .host) → Quiet Empty (w .card) → SafeCourse w (giving n f x b h) P
+      unfolding giving
+      safe-giving x b h w d q o e = safe-all-freed (lendsFrom b 0) x (emptied b) (λ v y z. back x b v d y z) h w q o e
+
+      -- nothing need be known of the card
+      pub safe-resetting : (b : Books) (h : Here) (w : World) → Fair h → w .host ≡ l → Owns base (lendsFrom b 0) (w .host) → SafeCourse w (resetting n f b h) P
+      unfolding resetting
+      safe-resetting b h w q e o =
+          safe-task (λ a k. pick (isGood a) (giving n f c.Reset b k) (parted n f c.Kept b k)) (ResetPost (w .host)) P reset h w q (safe-reset (h .inbox) (w .host) w refl) (λ v a j k i m.
+          course-pick (isGood a) _ _ v P
+          (λ t. let x = m .1 t in safe-giving c.Reset b j v reset-differs k (subst (Owns base (lendsFrom b 0)) (sym (m .0)) o) (x .1 .0, nothing-empty (v .card .held) (x .1 .1)))
+          (λ t. safe-parted (v .host) (λ y. y ≡ y) (λ y z s u. refl) (λ y z s u. refl) c.Kept b
+          (λ u a z. kept b u (subst (Owns base (lendsFrom b 0)) (sym (a ∙ m .0)) o) (a ∙ m .0 ∙ e)) j v k refl refl))
+
+      quiet-stoppable : (H : Held → Type 1) (y : Wire) (k : Card) → Quiet H k → Stoppable H y k
+      quiet-stoppable H y k x = (quiet-within H (λ p. Unit {0}) k x, λ e. x .0)
+
+      -- a command of the closing: where it was good the next follows, and else the reset
+      sent : (p : Post) (H G : Held → Type 1) (next : Books → Here → Course Rest) (b : Books) (h : Here) (w : World) → Fair h → w .host ≡ l → Owns base (lendsFrom b 0) (w .host)
+          → Fits p (mailAt (w .host) (h .inbox)) → Within H (λ q. Unit {0}) (w .card)
+          → ((k : Held) → After (postedAs (b .wire .toggle) p (mailAt (w .host) (h .inbox))) H k → G k)
+          → ((y : Wire) (j : Here) (v : World) → Fair j → v .host ≡ l → Owns base (lendsFrom b 0) (v .host) → Quiet G (v .card) → SafeCourse v (next (wired b y) j) P)
+          → SafeCourse w (sends b p (onward n f next) h) P
+      sent p H G next b h w q e o fits x gives follows =
+          safe-sends b p (onward n f next) H (λ y. Unit {0}) P h w q fits x
+          (λ v a j k d m. by-result (a .result) (after (b .wire) a) v j k d m)
+        where
+          by-result : (a : CmdResult) (y : Wire) (v : World) (j : Here) → Fair j → v .host ≡ w .host → Out (postedAs (b .wire .toggle) p (mailAt (w .host) (h .inbox))) H (λ y. Unit {0}) a (v .card)
+              → SafeCourse v (onward n f next a (wired b y) j) P
+          by-result (r.Done z us) y v j k d m = follows y j v k (d ∙ e) (subst (Owns base (lendsFrom b 0)) (sym d) o) (m .0, gives (v .card .held) (m .1))
+          by-result (r.Status s us) y v j k d m = safe-resetting (wired b y) j v k (d ∙ e) (subst (Owns base (lendsFrom b 0)) (sym d) o)
+          by-result (r.Timeout us) y v j k d m = safe-resetting (wired b y) j v k (d ∙ e) (subst (Owns base (lendsFrom b 0)) (sym d) o)
+          by-result r.Busy y v j k d m = safe-resetting (wired b y) j v k (d ∙ e) (subst (Owns base (lendsFrom b 0)) (sym d) o)
+          by-result (r.Bus us) y v j k d m = safe-resetting (wired b y) j v k (d ∙ e) (subst (Owns base (lendsFrom b 0)) (sym d) o)
+
+      -- THE STEPS, from the last to the first
+      safe-stopped : (b : Books) (h : Here) (w : World) → Fair h → w .host ≡ l → Owns base (lendsFrom b 0) (w .host) → Stoppable (Owed (b .lists .icm) false 0 false false) (b .wire) (w .card)
+          → SafeCourse w (stopped n f b h) P
+      unfolding stopped
+      safe-stopped b h w q e o x =
+          course-pick (b .wire .running) _ _ w P (λ t. safe-resetting b h w q e o)
+          (λ t. safe-giving c.Clean b h w clean-differs q o (x .1 t, owed-none (b .lists .icm) (w .card .held) (x .0 .now)))
+
+      safe-unmap-fa : (b : Books) (h : Here) (w : World) → Fair h → w .host ≡ l → Owns base (lendsFrom b 0) (w .host)
+          → Stoppable (Owed (b .lists .icm) false 0 false (isHeld (b .held .fa))) (b .wire) (w .card) → SafeCourse w (unmapFa n f b h) P
+      unfolding unmapFa
+      safe-unmap-fa b h w q e o x = by-held (isHeld (b .held .fa)) x
+        where
+          by-held : (t : Bool) → Stoppable (Owed (b .lists .icm) false 0 false t) (b .wire) (w .card)
+              → SafeCourse w (pick t (sends b (immOf 0xffe 0 0 0) (onward n f (stopped n f)) h) (stopped n f b h)) P
+          by-held true x =
+              sent (immOf 0xffe 0 0 0) (Owed (b .lists .icm) false 0 false true) (Owed (b .lists .icm) false 0 false false) (stopped n f) b h w q e o
+              (fits-imm 0xffe 0 0 _ (omega arith) (λ z. z) (omega arith) (omega arith)) (x .0) (owed-fa (b .lists .icm) _ refl)
+              (λ y j v k d u z. safe-stopped (wired b y) j v k d u (quiet-stoppable (Owed (b .lists .icm) false 0 false false) y (v .card) z))
+          by-held false x = safe-stopped b h w q e o x
+
+      safe-unmap-aux : (b : Books) (h : Here) (w : World) → Fair h → w .host ≡ l → Owns base (lendsFrom b 0) (w .host)
+          → Stoppable (Owed (b .lists .icm) false 0 (isHeld (b .held .aux)) (isHeld (b .held .fa))) (b .wire) (w .card) → SafeCourse w (unmapAux n f b h) P
+      unfolding unmapAux
+      safe-unmap-aux b h w q e o x = by-held (isHeld (b .held .aux)) x
+        where
+          by-held : (t : Bool) → Stoppable (Owed (b .lists .icm) false 0 t (isHeld (b .held .fa))) (b .wire) (w .card)
+              → SafeCourse w (pick t (sends b (immOf 0xffb 0 0 0) (onward n f (unmapFa n f)) h) (unmapFa n f b h)) P
+          by-held true x =
+              sent (immOf 0xffb 0 0 0) (Owed (b .lists .icm) false 0 true (isHeld (b .held .fa))) (Owed (b .lists .icm) false 0 false (isHeld (b .held .fa))) (unmapFa n f) b h w q e o
+              (fits-imm 0xffb 0 0 _ (omega arith) (λ z. z) (omega arith) (omega arith)) (x .0) (owed-aux (b .lists .icm) _ (isHeld (b .held .fa)) refl)
+              (λ y j v k d u z. safe-unmap-fa (wired b y) j v k d u (quiet-stoppable (Owed (b .lists .icm) false 0 false (isHeld (b .held .fa))) y (v .card) z))
+          by-held false x = safe-unmap-fa b h w q e o x
+
+      -- the card addresses of the ranges have 64 bits
+      abbrev pub Addressed : Books → Type 0
+      Addressed b = (k : ℕ) → k < b .lists .ranges → icmAt (b .lists .icm) k .virt < 2 ^ 64
+
+      safe-unmapping : (i : ℕ) (b : Books) (h : Here) (w : World) → ((k : ℕ) → k < i → icmAt (b .lists .icm) k .virt < 2 ^ 64) → Fair h → w .host ≡ l → Owns base (lendsFrom b 0) (w .host)
+          → Stoppable (Owed (b .lists .icm) false i (isHeld (b .held .aux)) (isHeld (b .held .fa))) (b .wire) (w .card) → SafeCourse w (unmapping n f i b h) P
+      unfolding unmapping
+      safe-unmapping zero b h w a q e o x = safe-unmap-aux b h w q e o x
+      safe-unmapping (suc i) b h w a q e o x =
+          sent (immOf 0xff9 0 (icmAt (b .lists .icm) i .pages % 2 ^ 32) (icmAt (b .lists .icm) i .virt)) (Owed (b .lists .icm) false (suc i) (isHeld (b .held .aux)) (isHeld (b .held .fa)))
+          (Owed (b .lists .icm) false i (isHeld (b .held .aux)) (isHeld (b .held .fa))) (unmapping n f i) b h w q e o
+          (fits-imm 0xff9 (icmAt (b .lists .icm) i .pages % 2 ^ 32) (icmAt (b .lists .icm) i .virt) _ (omega arith) (λ z. z) (let g : icmAt (b .lists .icm) i .pages % 2 ^ 32 < 2 ^ 32 = omega arith in g)
+          (a i (let g : i < suc i = omega arith in g))) (x .0)
+          (owed-unmap (b .lists .icm) _ i (isHeld (b .held .aux)) (isHeld (b .held .fa)) refl refl refl)
+          (λ y j v k d u z. safe-unmapping i (wired b y) j v (λ m less. a m (let g : m < suc i = omega (arith, less) in g)) k d u
+          (quiet-stoppable (Owed (b .lists .icm) false i (isHeld (b .held .aux)) (isHeld (b .held .fa))) y (v .card) z))
+
+      safe-close-hca : (b : Books) (h : Here) (w : World) → Addressed b → Fair h → w .host ≡ l → Owns base (lendsFrom b 0) (w .host) → Stoppable (OwedBy b) (b .wire) (w .card)
+          → SafeCourse w (closeHca n f b h) P
+      unfolding closeHca
+      safe-close-hca b h w a q e o x = by-started (b .started) x
+        where
+          by-started : (t : Bool) → Stoppable (Owed (b .lists .icm) t (b .lists .ranges) (isHeld (b .held .aux)) (isHeld (b .held .fa))) (b .wire) (w .card)
+              → SafeCourse w (pick t (sends b (immOf 0x008 0 0 0) (onward n f (unmapping n f (b .lists .ranges))) h) (unmapping n f (b .lists .ranges) b h)) P
+          by-started true x =
+              sent (immOf 0x008 0 0 0) (Owed (b .lists .icm) true (b .lists .ranges) (isHeld (b .held .aux)) (isHeld (b .held .fa)))
+              (Owed (b .lists .icm) false (b .lists .ranges) (isHeld (b .held .aux)) (isHeld (b .held .fa))) (unmapping n f (b .lists .ranges)) b h w q e o
+              (fits-imm 0x008 0 0 _ (omega arith) (λ z. z) (omega arith) (omega arith)) (x .0)
+              (owed-close (b .lists .icm) _ true (b .lists .ranges) (isHeld (b .held .aux)) (isHeld (b .held .fa)) refl)
+              (λ y j v k d u z. safe-unmapping (b .lists .ranges) (wired b y) j v a k d u
+              (quiet-stoppable (Owed (b .lists .icm) false (b .lists .ranges) (isHeld (b .held .aux)) (isHeld (b .held .fa))) y (v .card) z))
+          by-started false x = safe-unmapping (b .lists .ranges) b h w a q e o x
+
+      popped-fair : (h : Here) → Fair h → Fair (here (h .inbox) (h .outbox) (popped (h .undo)))
+      popped-fair h q = record { inbox = q .inbox; outbox = q .outbox; undo = record { opMod = q .undo .opMod; inMod = q .undo .inMod; inParam = q .undo .inParam } }
+
+      safe-undoing : (more : ℕ) (b : Books) (h : Here) (w : World) → Addressed b → Fair h → w .host ≡ l → Owns base (lendsFrom b 0) (w .host) → Stoppable (OwedBy b) (b .wire) (w .card)
+          → SafeCourse w (undoing n f more b h) P
+      unfolding undoing
+      safe-undoing zero b h w a q e o x = course-pick (eqb (h .undo .count) 0) _ _ w P (λ t. safe-close-hca b h w a q e o x) (λ t. safe-resetting b h w q e o)
+      safe-undoing (suc m) b h w a q e o x =
+          course-pick (eqb (h .undo .count) 0) _ _ w P (λ t. safe-close-hca b h w a q e o x)
+          (λ t. course-pick (isReserved (h .undo .op)) _ _ w P (λ d. safe-resetting b h w q e o)
+          (λ d. sent (undoPost (h .undo)) (OwedBy b) (OwedBy b) (undoing n f m) b (here (h .inbox) (h .outbox) (popped (h .undo))) w (popped-fair h q) e o
+          (fits-undo (h .undo) _ (q .undo) d) (x .0)
+          (owed-other (b .lists .icm) _ (b .started) (b .lists .ranges) (isHeld (b .held .aux)) (isHeld (b .held .fa)) (unreserved-other (h .undo .op) d))
+          (λ y j v k s u z. safe-undoing m (wired b y) j v a k s u (quiet-stoppable (OwedBy b) y (v .card) z))))
+
+      -- CLOSING
+      pub safe-stopping : (b : Books) (h : Here) (w : World) → Addressed b → Fair h → w .host ≡ l → Owns base (lendsFrom b 0) (w .host)
+          → (b .wire .broken ≡ false → Stoppable (OwedBy b) (b .wire) (w .card)) → SafeCourse w (stopping n f b h) P
+      unfolding stopping
+      safe-stopping b h w a q e o x =
+          course-pick (b .wire .broken) _ _ w P (λ t. safe-resetting b h w q e o) (λ t. safe-undoing UNDOS b h w a q e o (x t))

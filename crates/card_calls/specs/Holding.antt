@@ -1,0 +1,95 @@
+-- What the books say of the card while an opening runs, and when it has ended well.
+use Prim.Native.Nat.{ℕ, _^_, _<_}
+use mathlib.Core.Bool.{true, false}
+use mathlib.Core.Logic.{_⊎_, _↔_}
+use mathlib.Core.Option.{Option, some, none}
+use mathlib.Core.Path.{_≡_}
+use lib.ListN.{length}
+use Rattle.dma.specs.Pages.{blocksIn}
+use Rattle.dma.specs.declared.Buffer.{Buffer}
+use Rattle.dma.specs.declared.Cutter.{Cutter}
+use Rattle.session.specs.Session.{icmAt}
+use Rattle.session.specs.declared.Hold.{Hold as Slot}
+use Rattle.session.specs.declared.Hold.the-variants as o
+use Rattle.session.specs.declared.Books.{Books}
+use Rattle.session.specs.declared.Info.{Info}
+use Rattle.session.specs.declared.Area.{Area}
+use Rattle.session.specs.declared.Area.the-variants as a
+use Rattle.closing.specs.Closing.{lendsFrom}
+use Rattle.card.specs.Card.{Held, Command, Card, Other, kind, Meets, Hold, Host, World}
+use Rattle.card.specs.Known.{Quiet, Within}
+use Rattle.card.specs.Owns.{Owns, spotOf}
+use Rattle.card_calls.specs.Ranges.{InRanges, AsLaid, AnyIn}
+
+-- WHAT THE CARD HOLDS: exactly the ranges; no more than the areas; nothing lent
+abbrev pub OnSlot : Slot → ℕ → Type 0
+OnSlot o.Absent d = ⊥
+OnSlot (o.Held b) d = Meets (spotOf b) d
+
+pub record Knows (b : Books) (g : Held) : Type 1 where
+  pub icm : (x d : ℕ) → g .icm x d ↔ InRanges b x d
+  pub firmware : (d : ℕ) → g .firmware d → OnSlot (b .held .fa) d
+  pub auxiliary : (d : ℕ) → g .auxiliary d → OnSlot (b .held .aux) d
+  pub lent : (d : ℕ) → g .lent d → ⊥
+
+-- the list of ranges has its place for fourteen; each has fewer than 2^32 pages at an address of 64 bits
+pub record Entries (b : Books) : Type 0 where
+  pub room : length (b .lists .icm) ≡ 14
+  pub small : (k : ℕ) → k < b .lists .ranges → icmAt (b .lists .icm) k .pages < 2 ^ 32
+  pub addressed : (k : ℕ) → k < b .lists .ranges → icmAt (b .lists .icm) k .virt < 2 ^ 64
+
+-- WHILE AN AREA IS MAPPED: what is left to cut is not yet held, and lies where it belongs
+abbrev pub Ahead : Area → Books → ℕ → ℕ → Type 0
+Ahead a.Fa b x d = OnSlot (b .held .fa) d
+Ahead a.Aux b x d = OnSlot (b .held .aux) d
+Ahead (a.Range i) b x d = InRanges b x d
+
+abbrev pub Missing : Area → Cutter → ℕ → ℕ → Type 0
+Missing a.Fa k x d = ⊥
+Missing a.Aux k x d = ⊥
+Missing (a.Range i) k x d = AnyIn (blocksIn 63 k) x d
+
+-- all its mailboxes are posted
+abbrev pub Posted : Cutter → Type 0
+Posted k = k .left ≡ 0
+
+pub record Partly (e : Area) (b : Books) (k : Cutter) (g : Held) : Type 1 where
+  pub lower : (x d : ℕ) → g .icm x d → InRanges b x d
+  pub total : (x d : ℕ) → InRanges b x d → g .icm x d ⊎ Missing e k x d
+  pub firmware : (d : ℕ) → g .firmware d → OnSlot (b .held .fa) d
+  pub auxiliary : (d : ℕ) → g .auxiliary d → OnSlot (b .held .aux) d
+  pub lent : (d : ℕ) → g .lent d → ⊥
+  pub ahead : (x d : ℕ) → AnyIn (blocksIn 63 k) x d → Ahead e b x d
+
+-- the mailboxes are held, and the fences go to them
+pub record Boxes (b : Books) (k : Host) : Type 0 where
+  pub inbox : Buffer
+  pub outbox : Buffer
+  pub inHeld : b .held .inbox ≡ o.Held inbox
+  pub outHeld : b .held .outbox ≡ o.Held outbox
+  pub inAt : k .inbox ≡ some (spotOf inbox)
+  pub outAt : k .outbox ≡ some (spotOf outbox)
+  pub inLess : inbox .dev < 2 ^ 64
+  pub outLess : outbox .dev < 2 ^ 64
+
+-- a command of no effect
+abbrev pub Calm : Command → Type 0
+Calm p = kind (p .opcode) ≡ Other
+
+-- between two commands of an opening
+pub record Ready (base : ℕ → Option Hold) (b : Books) (w : World) : Type 1 where
+  pub owns : Owns base (lendsFrom b 0) (w .host)
+  pub card : Quiet (Knows b) (w .card)
+  pub boxes : Boxes b (w .host)
+  pub entries : Entries b
+
+-- OPEN: the books have the fourteen ranges of the layout, and the card's map is exactly these; a command that may be pending is of no effect
+pub record Opened (base : ℕ → Option Hold) (n : Info) (b : Books) (w : World) : Type 1 where
+  pub owns : Owns base (lendsFrom b 0) (w .host)
+  pub boxes : Boxes b (w .host)
+  pub entries : Entries b
+  pub fourteen : b .lists .ranges ≡ 14
+  pub laid : AsLaid n b 14
+  pub started : b .started ≡ true
+  pub card : Within (Knows b) Calm (w .card)
+  pub quiet : b .wire .running ≡ false → w .card .pending ≡ none

@@ -1,0 +1,4 @@
+pub mod SafeCourse
+pub mod Ranges
+pub mod Owed
+pub mod Holding

@@ -1,0 +1,4 @@
+pub mod Steps
+pub mod Command
+pub mod Tasks
+pub mod Opening

@@ -1,0 +1,5 @@
+pub mod Plans
+pub mod Settle
+pub mod Questions
+pub mod OnePage
+pub mod Demand

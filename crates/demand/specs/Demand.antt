@@ -1,0 +1,99 @@
+-- DEMAND 3. For every list of calls on a fresh session, every card from any start state with any replies, whichever bus calls fail, every host that hands out nothing in
+-- use, and any outbox and undo list at every call:
+-- (a) no page is given back, and no address unmapped, while the card may use it;
+-- (b) while the session is open, the card's map is exactly the fourteen ranges of the layout, page k of each on page k of its buffer, and different card pages lie on
+--     different device pages;
+-- (c) when an opening has failed or a close has returned, every handing over was given back exactly once and the card may use no page, or nothing was ever handed over; or
+--     the session says kept, its books name all that was not given back, and closing gave none back.
+-- The theorem is `demand` of proofs/Demand.antt. The definitions, in the order of reading:
+--   card/specs/Card.antt             the card rules and the host rules; `MayUse`, `Clear`, `Allowed`
+--   card/specs/Owns.antt             `Owns`, `outs`, `backs`
+--   card_calls/specs/SafeCourse.antt `Typed`, `Lendable`: what is lent has its types' widths
+--   card_calls/specs/Ranges.antt     `OnRange`, `InRanges`, `AsLaid`
+--   demand/specs/Events.antt         `Call`, `Event`, `Stand`, `Step`
+--   this file
+-- and of the code's definitions: session's `fresh`; fw's `openOf`, `closeOf`, `answerOf`, `asksOf`; pci's `replyOf`; closing's `lendsFrom`; opening's `rangeAt`.
+use Prim.Native.Nat.{ℕ, _<_}
+use mathlib.Core.List.{List, [], _∷_}
+use mathlib.Core.Logic.{_⊎_, _↔_}
+use mathlib.Core.Option.{Option, some, none}
+use mathlib.Core.Path.{_≡_}
+use Rattle.pci.specs.Script.{Ask}
+use Rattle.session.specs.Session.{fresh}
+use Rattle.session.specs.declared.Books.{Books}
+use Rattle.session.specs.declared.Info.{Info}
+use Rattle.session.specs.declared.Stage.{Stage}
+use Rattle.session.specs.declared.Stage.the-variants as g
+use Rattle.session.specs.declared.Failure.{Failure}
+use Rattle.session.specs.declared.Failure.the-variants as f
+use Rattle.session.specs.declared.Closing.{Closing}
+use Rattle.session.specs.declared.Closing.the-variants as c
+use Rattle.session.specs.declared.Session.{Session}
+use Rattle.closing.specs.Closing.{lendsFrom}
+use Rattle.fw.specs.Calls.{asksOf}
+use Rattle.card.specs.Card.{Card, Hold, Host, World, MayUse, Allowed}
+use Rattle.card.specs.Owns.{Owns, outs, backs}
+use Rattle.card_calls.specs.Ranges.{InRanges, AsLaid}
+use Rattle.demand.specs.Events.{Call, callOpen, callClose, callAnswer, Event, turn, asked, Stand, Step}
+
+-- (a) The question that an answer answers was one that a session may ask: see `Allowed`.
+abbrev pub QuestionBy : Failure → Call → Session → (inbox : List ℕ) → World → Type 0
+QuestionBy f.Nothing callOpen s i w = Unit {0}
+QuestionBy f.Nothing callClose s i w = Unit {0}
+QuestionBy f.Nothing (callAnswer a r) s i w = (y : Ask) → asked (asksOf s) i ≡ some y → Allowed i w y
+QuestionBy (f.By z) c s i w = Unit {0}
+
+abbrev pub QuestionKept : Stand → Event → Type 0
+QuestionKept x e = QuestionBy (turn (x .session) e .refusal) (e .call) (x .session) (e .inbox) (x .world)
+
+-- (b)
+pub record Exact (n : Info) (b : Books) (k : Card) : Type 1 where
+  pub fourteen : b .lists .ranges ≡ 14
+  pub laid : AsLaid n b 14
+  pub icm : (x d : ℕ) → k .held .icm x d ↔ InRanges b x d
+  pub one : (x y d : ℕ) → k .held .icm x d → k .held .icm y d → x ≡ y
+
+-- (c) "every page handed over was given back exactly once for each handing over and the card may use none of them"; where nothing was handed over there is none
+pub record Returned (w : World) : Type 1 where
+  pub once : (h : ℕ) → outs h (w .host .log) ≡ backs h (w .host .log)
+  pub unused : (w .host .log ≡ []) ⊎ ((d : ℕ) → MayUse (w .card) d → ⊥)
+
+-- "or the session says kept, names all not given back before, and closing gave none back"
+pub record Kept (base : ℕ → Option Hold) (b : Books) (w : World) (began : Host) : Type 1 where
+  pub named : Owns base (lendsFrom b 0) (w .host)
+  pub none : w .host ≡ began
+
+abbrev pub EndedBy : (ℕ → Option Hold) → Books → World → Host → Closing → Type 1
+EndedBy base b w k c.Clean = Returned w
+EndedBy base b w k c.Reset = Returned w
+EndedBy base b w k c.Kept = Kept base b w k
+
+-- while a call runs, and before the first, nothing more is said
+pub record Nothing : Type 1 where
+
+abbrev pub GoodAt : (ℕ → Option Hold) → Stage → Stand → Type 1
+GoodAt base g.Fresh x = Nothing
+GoodAt base g.Open x = Exact (x .session .info) (x .session .books) (x .world .card)
+GoodAt base g.Ended x = EndedBy base (x .session .books) (x .world) (x .began) (x .session .closing)
+GoodAt base (g.Prepare y) x = Nothing
+GoodAt base (g.Boot y) x = Nothing
+GoodAt base (g.Close y) x = Nothing
+
+abbrev pub Good : (ℕ → Option Hold) → Stand → Type 1
+Good base x = GoodAt base (x .session .stage) x
+
+-- A FRESH SESSION, on any card; the host may have handed out anything before, and none of it to this session
+pub record Start (x : Stand) : Type 1 where
+  pub session : x .session ≡ fresh
+  pub log : x .world .host .log ≡ []
+  pub inbox : x .world .host .inbox ≡ none
+  pub outbox : x .world .host .outbox ≡ none
+
+-- after each of the events, whatever the world does at each
+abbrev pub Always : (ℕ → Option Hold) → List Event → Stand → Type 1
+Always base [] x = Good base x
+Always base (e ∷ es) x = Good base x × ((y : Stand) → Step x e y → QuestionKept x e × Always base es y)
+
+-- THE STATEMENT
+abbrev pub Demand : Type 1
+Demand = (x : Stand) → Start x → (es : List Event) → Always (x .world .host .hand) es x
