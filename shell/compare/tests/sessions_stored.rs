@@ -236,3 +236,12 @@ fn every_end_is_stored() {
     has("ended 7 3938700 0 2");
     has("ended 7 3938700 0 1");
 }
+
+/// What the gate has stored is what the Rust does today.
+#[test]
+fn the_stored_sessions_are_the_rusts() {
+    let root = concat!(env!("CARGO_MANIFEST_DIR"), "/../../crates/sessions");
+    let (stdin, stdout) = sample();
+    assert!(std::fs::read(format!("{root}/stdin")).expect("the stored input") == stdin);
+    assert!(std::fs::read(format!("{root}/stdout")).expect("the stored output") == stdout.into_bytes());
+}
