@@ -79,7 +79,7 @@ pages-few bytes n e = by-bound (leb bytes (2 ^ 64 - 4096)) refl
         IsValue (value x) = Unit {0}
         IsValue (refused i vs) = ⊥
 
-filled-is : (k : Cutter) (s : List ℕ) → length s ≡ 4096 → filledAt 63 256 k s ≡ mailboxOf (firstBlocks 63 256 k)
+pub filled-is : (k : Cutter) (s : List ℕ) → length s ≡ 4096 → filledAt 63 256 k s ≡ mailboxOf (firstBlocks 63 256 k)
 filled-is k s l = ap (λ (t : Bool). pick t (mailboxOf (firstBlocks 63 256 k)) s) (eq-eqb (length s) 4096 l)
 
 filled-fair : (k : Cutter) (h : Here) → Fair h → Fair (holds (filledAt 63 256 k (h .inbox)) h)

@@ -128,7 +128,7 @@ port-capped : (n : Info) (p : ℕ) (i : PortInfo) → Capped n → Capped (withP
 port-capped n p i (s, bar, bs, e) = (s, bar, bs, e ∙ ap value (sym (port-cap (eqb p 1) _ _ (n .cap) refl refl)))
 
 -- MAILBOXES of fields
-length-all : (s : List ℕ) (fs : List Field) → length (putAll s fs) ≡ length s
+pub length-all : (s : List ℕ) (fs : List Field) → length (putAll s fs) ≡ length s
 unfolding putAll
 length-all s [] = refl
 length-all s (x ∷ fs) = length-all (putAt Big s (x .offset) (x .width) (x .value)) fs ∙ length-put Big s (x .offset) (x .width) (x .value)

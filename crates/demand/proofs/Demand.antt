@@ -134,7 +134,7 @@ record Inv (base : ℕ → Option Hold) (k : Host) (x : Stand) : Type 1 where
   pub held : HeldAt (x .session .stage) (x .session .closing) (x .world .host ≡ x .began)
 
 -- a call in time, and with all that it must be lent; or not
-in-good : {A : Type 0} (t r : Bool) (y s w : A) → t ≡ true → r ≡ true → inTime t r y s w ≡ y
+pub in-good : {A : Type 0} (t r : Bool) (y s w : A) → t ≡ true → r ≡ true → inTime t r y s w ≡ y
 in-good true true y s w p q = refl
 in-good true false y s w p q = absurd (false≢true q)
 in-good false r y s w p q = absurd (false≢true p)
@@ -185,7 +185,7 @@ turn-taken : (s : Session) (a : Answer) (w : Work) (i o : List ℕ) (u : Top) (n
 turn-taken s a w i o u e.Going = refl
 turn-taken s a w i o u (e.Ended z) = refl
 
-step-taken : (s : Session) (a : Answer) (r i o : List ℕ) (u : Top) → stepOf s a r i o u .refusal ≡ f.Nothing
+pub step-taken : (s : Session) (a : Answer) (r i o : List ℕ) (u : Top) → stepOf s a r i o u .refusal ≡ f.Nothing
 unfolding stepOf
 step-taken s a r i o u = turn-taken s a (workStepOf (s .work) a r .work) i o u (workStepOf (s .work) a r .ending)
 
