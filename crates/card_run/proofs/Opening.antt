@@ -87,13 +87,13 @@ below-at (x ∷ xs) e k = by-byte (λ q. below-at xs q) (ltb x 256) refl k
     by-byte on b q zero = ltb-true x 256 (rest b q .0)
     by-byte on b q (suc k) = on (rest b q .1) k
 
-no-top : Top
+pub no-top : Top
 no-top = record { count = 0; op = 0; «op_mod» = 0; «in_mod» = 0; «in_param» = 0 }
 
-abbrev lends : List ℕ → Lent
+abbrev pub lends : List ℕ → Lent
 lends out = record { outbox = out; undo = no-top }
 
-lendable : (out : List ℕ) → Bytes out → length out ≡ 4096 → Whole (lends out)
+pub lendable : (out : List ℕ) → Bytes out → length out ≡ 4096 → Whole (lends out)
 unfolding no-top
 lendable out b l =
     record { lendable = record { outbox = b; undo = record { opMod = omega arith; inMod = omega arith; inParam = omega arith } }; outbox = l; undo = refl }
@@ -104,13 +104,13 @@ zeros (suc n) zero = let h : 0 < 256 = omega arith in h
 zeros (suc n) (suc k) = zeros n k
 
 -- an outbox with nothing in it
-abbrev empty : List ℕ
+abbrev pub empty : List ℕ
 empty = replicate 4096 0
 
-nil : Bytes empty
+pub nil : Bytes empty
 nil = zeros 4096
 
-empty-length : length empty ≡ 4096
+pub empty-length : length empty ≡ 4096
 empty-length = length-replicate {A = ℕ} 4096 0
 
 -- the end that is meant
@@ -369,7 +369,7 @@ can-claim n b h w room s =
     (can-first n b j v (subst (λ (k : World). Room 0 0 (k .host)) (sym (x .world)) room) (ap (λ (k : World). k .card .status) (x .world) ∙ s)))
 
 -- A CARD that holds nothing and a HOST that has handed out nothing
-pub card₀ : Card
+abbrev pub card₀ : Card
 card₀ =
     record {
       held = holding (λ v d. ⊥) No No No;
@@ -380,14 +380,14 @@ card₀ =
       mail = record { inbox = none; outbox = none; bytes = [] };
     }
 
-pub host₀ : Host
+abbrev pub host₀ : Host
 host₀ = record { hand = λ h. none; log = []; inbox = none; outbox = none }
 
-pub world₀ : World
+abbrev pub world₀ : World
 world₀ = record { card = card₀; host = host₀ }
 
 pub opening-runs : (h : Here) → CanCourse world₀ (opening h) IsOpen
-unfolding enable world₀ card₀ host₀
+unfolding enable
 opening-runs h =
     can-run (λ y j. onEnabled y noInfo noBooks j) (So (t.Enabled 0) world₀) neither attributing h world₀ (can-attributing world₀)
     (λ v y j x. subst (λ (d : _). CanCourse v (onEnabled d noInfo noBooks j) IsOpen) (sym (x .so))

@@ -18,6 +18,7 @@ use Rattle.pci.specs.Suits.{suitsOf}
 use Rattle.pci.specs.Machine.{Right}
 use Rattle.pci.proofs.Replies.{isReply, suits-reply}
 use Rattle.pci.specs.declared.Answer.{Answer}
+use Rattle.pci.specs.declared.Refusal.the-variants as x
 use Rattle.work.specs.Work.{isResting, workStepOf}
 use Rattle.work.specs.declared.Task.{Task}
 use Rattle.work.specs.declared.Work.{Work}
@@ -37,7 +38,7 @@ use Rattle.session.specs.declared.Planned.{Planned}
 use Rattle.opening.specs.Opening.{opening}
 use Rattle.opening.specs.Values.{layoutIn}
 use Rattle.opening.specs.Plan.{openPlan}
-use Rattle.fw.specs.Calls.{asksOf, isSession, isLent, openable, answerable, inTime, begins, planOf, withWork, filledIn, wipedIn, wipeOf, openOf, answerOf, answerIn, stepBoxIn, stepOf, stepIn}
+use Rattle.fw.specs.Calls.{asksOf, isSession, isLent, openable, answerable, inTime, begins, refusedOf, planOf, withWork, filledIn, wipedIn, wipeOf, openOf, answerOf, answerIn, stepBoxIn, stepOf, stepIn}
 use Rattle.fw.specs.Follows.{courseOf, courseAt, isRunning, hereAfter, Follows}
 use Rattle.fw.specs.declared.Turn.{Turn}
 use Rattle.fw.specs.declared.Wipe.{Wipe}
@@ -51,7 +52,7 @@ use Rattle.card_calls.proofs.Areas.{filled-is}
 use Rattle.card_calls.proofs.Blocks.{length-mailbox}
 use Rattle.card_calls.proofs.Opening.{length-all, safe-opening}
 use Rattle.card_run.specs.Can.{Whole, CanCourse}
-use Rattle.card_run.proofs.Opening.{IsOpen, world₀, host₀, card₀, opening-runs}
+use Rattle.card_run.proofs.Opening.{IsOpen, world₀, host₀, no-top, lends, lendable, empty, nil, empty-length, opening-runs}
 use Rattle.demand.specs.Events.{Call, callOpen, callAnswer, Event, turn, asked, Stand, Happens, SameBox, boxLeft, isClosing, inboxAfter, Step}
 use Rattle.demand.specs.Demand.{Start}
 use Rattle.demand.proofs.Questions.{asked-shown}
@@ -182,8 +183,46 @@ live (ask q l k) P s h w b e al len safe (r, m, y, ok, (a, res, d), st, can) =
     running false p = absurd (false≢true (sym (ap isRet e) ∙ ended (s .stage) s h p .0))
 
 -- THE START: a fresh session, an empty inbox, a card that holds nothing, a host that has handed out nothing
-abbrev zeros : List ℕ
-zeros = replicate 4096 0
+first : Whole (lends empty)
+first = lendable empty nil empty-length
 
-no-top : Top
-no-top = record { count = 0; op = 0; «op_mod» = 0; «in_mod» = 0; «in_param» = 0 }
+record Any (w : World) (x : Rest) : Type 1 where
+
+opened : Step (stand fresh empty world₀ host₀) (event callOpen empty (lends empty)) (stand (openPlan fresh no-top .session) empty world₀ host₀)
+opened = record {
+  session = sym (ap (λ (t : Turn). t .session) turned);
+  lendable = first .lendable;
+  lent = subst (λ (t : Failure). SameBox t empty empty) (sym taken) refl;
+  left = sym (ap (λ (t : Failure). boxLeft t empty empty) taken);
+  world = subst (λ (t : Failure). Happens t callOpen fresh empty world₀ world₀) (sym taken) (same, refl);
+  began = refl;
+}
+  where
+    turned : openOf fresh empty empty no-top ≡ begins (openPlan fresh no-top)
+    turned =
+        in-good (openable fresh) (isLent empty empty no-top) (begins (openPlan fresh no-top)) (refusedOf fresh x.Short (no-top .count)) (refusedOf fresh x.Wrong (no-top .count)) refl
+        (lent-good empty (lends empty) empty-length first)
+
+    taken : openOf fresh empty empty no-top .refusal ≡ f.Nothing
+    taken = ap (λ (t : Turn). t .refusal) turned
+
+safe : SafeCourse world₀ (opening (here empty empty no-top)) Any
+safe =
+    safe-opening (host₀ .hand) Any host₀ (λ n y z b w e o q. record { }) (λ n y b w o. record { }) (λ n b w o. record { }) (λ n y b w e. record { }) (here empty empty no-top) world₀
+    (record { inbox = empty-length; outbox = nil; undo = first .lendable .undo }) refl (record { own = tt; new = tt; apart = tt; others = λ h e. refl }) refl refl
+
+pub not-empty : NotEmpty
+not-empty =
+    let next =
+    live (opening (here empty empty no-top)) Any (openPlan fresh no-top .session) (here empty empty no-top) world₀ host₀ (opens (here empty empty no-top)) (refl, refl) empty-length safe
+    (opening-runs (here empty empty no-top)) in
+    (
+      stand fresh empty world₀ host₀,
+      record { session = refl; log = refl; inbox = refl; outbox = refl },
+      record {
+        events = event callOpen empty (lends empty) ∷ next .events;
+        end = next .end;
+        run = (stand (openPlan fresh no-top .session) empty world₀ host₀, opened, next .run);
+        stage = next .stage;
+      },
+    )
