@@ -1,22 +1,22 @@
 -- A buffer is made: allocated and mapped, or given back at once.
-use Prim.Native.Nat.{ℕ, _+_, _*_, _%_, _^_, _<_, _≤_}
+use Prim.Native.Nat.{ℕ, _+_, _*_, _%_, _^_, _≤_}
 use mathlib.Core.Bool.{Bool, true, false, _&&_, false≢true}
 use mathlib.Core.List.{List, [], _∷_}
-use mathlib.Core.Logic.{_⊎_, inl, inr}
+use mathlib.Core.Logic.{inl, inr}
 use mathlib.Core.Option.{Option, some, none, Option·none-ne-some}
 use mathlib.Core.Path.{_≡_, refl, sym, _∙_, ap, subst}
 use lib.Dec.{eqb, leb}
 use borrow.Author.Tests.{eqb-true, eqb-false, leb-true}
 use Rattle.fields.specs.Outcome.{Outcome, value, refused, pick}
-use Rattle.dma.specs.Buffers.{pagesFor, isPage, endsWithin, acceptAt}
+use Rattle.dma.specs.Buffers.{pagesFor, isPage, endsWithin}
 use Rattle.dma.specs.declared.Buffer.{Buffer}
-use Rattle.pci.specs.Script.{Script, ret, ask, allocate, mapped, unmap, free, Bus, good, failed, Spot}
-use Rattle.buffer.specs.Buffer.{byOutcome, release, onMap, mapping, onAllocate, allocating, making}
+use Rattle.pci.specs.Script.{ret, allocate, mapped, Bus, good, failed, Spot}
+use Rattle.buffer.specs.Buffer.{byOutcome, release, onMap, onAllocate, allocating, making}
 use Rattle.buffer.specs.declared.Fault.{Fault}
 use Rattle.buffer.specs.declared.Fault.the-variants as f
 use Rattle.buffer.specs.declared.Made.{Made}
 use Rattle.buffer.specs.declared.Made.the-variants as m
-use Rattle.card.specs.Card.{Card, put, Hold, Host, Meets, On, InUse, orElse, second, mapAt, unmapAll, unmapIn, mapIn, handOut, handBack, MayUse, Clear, World, WorldStep}
+use Rattle.card.specs.Card.{Card, put, Hold, Host, Meets, On, orElse, second, mapAt, unmapAll, handOut, handBack, MayUse, World, WorldStep}
 use Rattle.card.specs.Safe.{Safe}
 use Rattle.card.specs.Owns.{Each, Pairwise, spotOf, holdOf, InBooks, Apart, Owns}
 use Rattle.card.proofs.Sequence.{safe-weaken, safe-pick}

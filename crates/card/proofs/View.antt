@@ -1,10 +1,9 @@
 -- What the card may use, from what is known of what it holds.
 use Prim.Native.Nat.{ℕ}
 use mathlib.Core.Logic.{_⊎_, inl, inr, ⊎-elim}
-use mathlib.Core.Option.{Option, some, none, Option·none-ne-some}
+use mathlib.Core.Option.{some, Option·none-ne-some}
 use mathlib.Core.Path.{_≡_, sym, _∙_, ap, subst}
-use Rattle.pci.specs.Script.{Spot}
-use Rattle.card.specs.Card.{Held, Command, Card, Named, Kind, MapFa, UnmapFa, MapAux, UnmapAux, MapIcm, UnmapIcm, CloseHca, Other, kind, does, effect, Holds, IsMap, OnBox, Carries, MayUse}
+use Rattle.card.specs.Card.{Held, Command, Card, Named, Kind, MapFa, MapAux, MapIcm, Other, kind, does, effect, Holds, IsMap, OnBox, MayUse}
 use Rattle.card.specs.Known.{Empty, Nothing, Quiet, Within}
 
 pub nothing-empty : (g : Held) → Nothing g → Empty g

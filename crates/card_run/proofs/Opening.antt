@@ -1,19 +1,18 @@
 -- A whole opening can end well: on a card that holds nothing and a host that has handed out nothing.
 use Prim.Native.Nat.{ℕ, zero, suc, _+_, _-_, _*_, _/_, _%_, _^_, _≤_, _<_, max}
 use native.Mathlib.Omega.{arith}
-use mathlib.Core.Bool.{Bool, true, false, not, false≢true}
+use mathlib.Core.Bool.{Bool, true, false, false≢true}
 use mathlib.Core.List.{List, [], _∷_, _++_}
-use mathlib.Core.Logic.{_⊎_, inl, inr}
-use mathlib.Core.Option.{Option, some, none, Option·none-ne-some}
+use mathlib.Core.Logic.{inl}
+use mathlib.Core.Option.{some, none, Option·none-ne-some}
 use mathlib.Core.Path.{_≡_, refl, sym, _∙_, ap, subst}
-use lib.Dec.{eqb, ltb, leb, lit≤}
+use lib.Dec.{eqb, ltb, leb}
 use borrow.Author.Tests.{eq-eqb, le-leb, ltb-true}
 use lib.ListN.{length, getD, set, replicate, length-replicate}
 use Rattle.fields.specs.Outcome.{Outcome, value, refused, pick}
 use Rattle.fields.specs.Fields.{digits, putDigits}
 use Rattle.fields.proofs.Laws.{Bytes}
 use Rattle.bars.specs.declared.Size.the-variants as z
-use Rattle.bars.specs.declared.Pick.{Pick}
 use Rattle.bench.specs.Bench.{inputL}
 use Rattle.dma.specs.Buffers.{pagesFor}
 use Rattle.dma.specs.PageList.{firstBlocks, behind, filledAt}
@@ -21,31 +20,26 @@ use Rattle.dma.specs.declared.Buffer.{Buffer}
 use Rattle.dma.specs.declared.Cutter.{Cutter}
 use Rattle.hcr.specs.declared.Post.{Post}
 use Rattle.hcr.specs.Words.{firstToggle}
-use Rattle.pci.specs.Script.{Script, Ask, Reply}
+use Rattle.pci.specs.Script.{Script}
 use Rattle.pci.specs.Script as s
 use Rattle.reply.specs.Capability.{capabilityOf, devCapOf, readInto}
 use Rattle.reply.specs.Replies.{queryFwOf, fwOf, fwHeld}
 use Rattle.reply.specs.declared.DevCap.{DevCap}
 use Rattle.layout.specs.Layout.{firstPow, tablesFrom, spotOf, sortInto, placeFrom, totalOf, firstBad, tableIn, layOut}
 use Rattle.layout.specs.Counts.{profileOf, countsOf}
-use Rattle.layout.specs.declared.Layout.{Layout}
 use Rattle.init.specs.Init.{filledBy, fieldsOf, initOf, modStatCfg}
 use Rattle.command.specs.Script.{command}
-use Rattle.command.specs.declared.CmdEnd.{CmdEnd}
 use Rattle.command.specs.declared.CmdResult.{CmdResult}
 use Rattle.command.specs.declared.CmdResult.the-variants as r
 use Rattle.reset.specs.Reset.{reset, isGood}
 use Rattle.reset.specs.declared.ResetEnd.the-variants as re
-use Rattle.buffer.specs.Buffer.{byOutcome, allocating, making}
-use Rattle.buffer.specs.declared.Fault.the-variants as fa
+use Rattle.buffer.specs.Buffer.{making}
 use Rattle.buffer.specs.declared.Made.{Made}
-use Rattle.buffer.specs.declared.Made.the-variants as m
 use Rattle.tasks.specs.Attributes.{attributing}
 use Rattle.tasks.specs.declared.Attributes.the-variants as t
 use Rattle.tasks.specs.Claim.{claiming}
 use Rattle.tasks.specs.declared.Claimed.the-variants as l
 use Rattle.uar.specs.Uar.{finding}
-use Rattle.uar.specs.declared.Found.the-variants as fo
 use Rattle.work.specs.Work.{looking}
 use Rattle.session.specs.Session.{noBooks, noInfo, wired, after, catasFor, immOf, withInOf, withOutOf}
 use Rattle.session.specs.Course.{Course, ret, ask, Here, here, Lent, left, lent, Box, neither, inbox, outbox, zeroed, touched, run, task, sends, Rest}
@@ -58,13 +52,12 @@ use Rattle.session.specs.declared.Stage.the-variants as g
 use Rattle.session.specs.declared.Failure.the-variants as f
 use Rattle.session.specs.declared.Closing.the-variants as c
 use Rattle.closing.specs.Closing.{isDone, parted}
-use Rattle.opening.specs.Values.{needsReset, failureOf, faultOf, fwFailureOf, immediateOf, layoutIn, rangeAt, withToggle, withCatas, withInbox, withOutbox, withOriginal, nowStarted, opFor, enters, cutterFor, withUar, withRevision, withCap}
+use Rattle.opening.specs.Values.{needsReset, faultOf, fwFailureOf, immediateOf, layoutIn, rangeAt, withToggle, withCatas, withInbox, withOutbox, withOriginal, nowStarted, opFor, enters, cutterFor, withUar, withRevision, withCap}
 use Rattle.opening.specs.Opening.{fails, failsBy, brokenBy, onGood, onValue, holds, onMade, opened, queryAdapter, queryFunc, initHca, mapping, areaFor, mapIcm, setIcmSize, layingOut, queryPorts, portsOf, queryDevCap, modStat, runFw, fwReply, queryFw, look, giveInbox, makeOutbox, makeInbox, onFound, findUar, firstReset, onClaimed, claim, onEnabled, enable, opening}
-use Rattle.card.specs.Card.{Card, holds as holding, No, Host, World, WorldStep}
-use Rattle.card_calls.specs.SafeCourse.{Lendable}
+use Rattle.card.specs.Card.{Card, holds as holding, No, Host, World}
 use Rattle.card_calls.proofs.Courses.{untouched}
-use Rattle.card_calls.proofs.Areas.{Placed, pages-few}
-use Rattle.card_calls.proofs.Opening.{Laid, Capped, capped-laid}
+use Rattle.card_calls.proofs.Areas.{pages-few}
+use Rattle.card_calls.proofs.Opening.{Laid, capped-laid}
 use Rattle.card_run.specs.Can.{Can, Whole, CanCourse}
 use Rattle.card_run.proofs.Command.{Idle, Well, can-command}
 use Rattle.card_run.proofs.Tasks.{So, Barless, Room, Grew, cleared, can-attributing, can-claiming, can-reset, can-finding, can-looking, can-making}

@@ -1,12 +1,12 @@
 -- THE THEOREM of demand 3: what is left of each call's course is safe, after every event.
 use Prim.Native.Nat.{ℕ, _+_}
 use native.Mathlib.Omega.{arith}
-use mathlib.Core.Bool.{Bool, true, false, _&&_, not, false≢true}
+use mathlib.Core.Bool.{Bool, true, false, _&&_, false≢true}
 use mathlib.Core.List.{List, [], _∷_}
 use mathlib.Core.Logic.{_⊎_, inl, inr, ⊎-elim}
-use mathlib.Core.Option.{Option, some, none, Option·some-injective, Option·none-ne-some}
+use mathlib.Core.Option.{Option, some, none, Option·some-injective}
 use mathlib.Core.Path.{_≡_, refl, sym, _∙_, ap, subst}
-use lib.Dec.{eqb, leb}
+use lib.Dec.{eqb}
 use borrow.Author.Tests.{eqb-true}
 use lib.ListN.{length}
 use Rattle.fields.specs.Outcome.{pick}
@@ -16,7 +16,7 @@ use Rattle.pci.specs.declared.Question.the-variants as q
 use Rattle.pci.specs.declared.Answer.{Answer}
 use Rattle.pci.specs.declared.Refusal.{Refusal}
 use Rattle.pci.specs.declared.Refusal.the-variants as r
-use Rattle.work.specs.Work.{isResting, taskAsks, workStepOf}
+use Rattle.work.specs.Work.{isResting, workStepOf}
 use Rattle.work.specs.declared.Work.{Work}
 use Rattle.work.specs.declared.Ending.{Ending}
 use Rattle.work.specs.declared.Ending.the-variants as e
@@ -27,7 +27,6 @@ use Rattle.session.specs.Course.{Course, ret, ask, Here, here, Lent, Left, left
 use Rattle.session.specs.declared.Top.{Top}
 use Rattle.session.specs.declared.Books.{Books}
 use Rattle.session.specs.declared.Info.{Info}
-use Rattle.session.specs.declared.Wire.{Wire}
 use Rattle.session.specs.declared.Stage.{Stage}
 use Rattle.session.specs.declared.Stage.the-variants as g
 use Rattle.session.specs.declared.Close.{Close}
@@ -44,7 +43,7 @@ use Rattle.fw.specs.Follows.{courseOf, courseAt, isRunning, hereAfter, Follows}
 use Rattle.fw.specs.declared.Turn.{Turn}
 use Rattle.fw.proofs.Landed.{counted}
 use Rattle.fw.proofs.Session.{session-follows, opens, closes}
-use Rattle.card.specs.Card.{Held, Card, Settles, Hold, Host, World, WorldStep, MayUse, Allowed}
+use Rattle.card.specs.Card.{Card, Settles, Hold, Host, World, WorldStep, MayUse, Allowed}
 use Rattle.card.specs.Owns.{Owns, outs, backs}
 use Rattle.card.proofs.Command.{within-stable, within-more, quiet-stable}
 use Rattle.card.proofs.View.{empty-uses}
@@ -54,13 +53,13 @@ use Rattle.card_calls.proofs.Courses.{Fair}
 use Rattle.card_calls.proofs.Closing.{safe-stopping}
 use Rattle.card_calls.proofs.Books.{knows-owed}
 use Rattle.card_calls.proofs.Opening.{safe-opening}
-use Rattle.demand.specs.Events.{Call, callOpen, callClose, callAnswer, Event, turn, asked, Stand, Rests, Answers, Happens, SameBox, boxLeft, isClosing, lentBy, inboxAfter, Step}
+use Rattle.demand.specs.Events.{Call, callOpen, callClose, callAnswer, Event, turn, asked, Stand, Rests, Answers, Happens, SameBox, boxLeft, isClosing, inboxAfter, Step}
 use Rattle.demand.specs.Demand.{QuestionBy, QuestionKept, Exact, Returned, Kept, EndedBy, GoodAt, Good, Start, Always, Demand}
-use Rattle.demand.proofs.Plans.{NoHost, IsRest, Fit, Suited, HeldClose, HeldAt, Known, held-all, held-map, held-step, Both, step-both, stop-suited}
+use Rattle.demand.proofs.Plans.{IsRest, Fit, Suited, HeldAt, Known, held-all, held-map, held-step, Both, step-both, stop-suited}
 use Rattle.demand.proofs.Settle.{settled-uses, at, rests-at, course-settled}
 use Rattle.demand.proofs.Questions.{asked-shown, rest-asks, nothing-asked, task-leaves}
 use Rattle.demand.proofs.OnePage.{one-page}
-use Rattle.card.specs.Known.{Empty, Nothing, Quiet, Within}
+use Rattle.card.specs.Known.{Empty, Nothing, Quiet}
 use Rattle.card_calls.specs.Owed.{OwedBy}
 use Rattle.card_calls.specs.Holding.{Calm, Knows, Opened}
 

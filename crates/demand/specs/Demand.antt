@@ -13,7 +13,7 @@
 --   demand/specs/Events.antt         `Call`, `Event`, `Stand`, `Step`
 --   this file
 -- and of the code's definitions: session's `fresh`; fw's `openOf`, `closeOf`, `answerOf`, `asksOf`; pci's `replyOf`; closing's `lendsFrom`; opening's `rangeAt`.
-use Prim.Native.Nat.{ℕ, _<_}
+use Prim.Native.Nat.{ℕ}
 use mathlib.Core.List.{List, [], _∷_}
 use mathlib.Core.Logic.{_⊎_, _↔_}
 use mathlib.Core.Option.{Option, some, none}

@@ -1,5 +1,5 @@
 -- What the machine's plans keep, so that it goes on: the lists are within their arrays, and where a call runs a task is under way.
-use Prim.Native.Nat.{ℕ, zero, suc, _+_, _≤_, _<_}
+use Prim.Native.Nat.{ℕ, zero, suc, _+_}
 use native.Mathlib.Omega.{arith}
 use mathlib.Core.Bool.{Bool, true, false, _&&_, false≢true}
 use mathlib.Core.List.{List}
@@ -12,7 +12,6 @@ use Rattle.dma.specs.Buffers.{pagesFor}
 use Rattle.dma.specs.PageList.{listedOf}
 use Rattle.dma.specs.declared.Buffer.{Buffer}
 use Rattle.dma.specs.declared.Cutter.{Cutter}
-use Rattle.dma.specs.declared.Listed.{Listed}
 use Rattle.hcr.specs.Words.{isReserved}
 use Rattle.pci.specs.declared.Refusal.{Refusal}
 use Rattle.pci.specs.declared.Answer.{Answer}
@@ -20,19 +19,16 @@ use Rattle.pci.specs.Views.{dwordOf}
 use Rattle.pci.specs.declared.DwordReply.{DwordReply}
 use Rattle.pci.specs.declared.DwordReply.the-variants as dw
 use Rattle.command.specs.Machine.{cmdStepOf}
-use Rattle.command.specs.declared.CmdEnd.{CmdEnd}
 use Rattle.command.specs.declared.CmdResult.{CmdResult}
 use Rattle.command.specs.declared.CmdStep.{CmdStep}
 use Rattle.command.specs.declared.CmdStep.the-variants as cs
 use Rattle.reset.specs.Reset.{isGood}
 use Rattle.reset.specs.Steps.{resetStepOf}
 use Rattle.reset.specs.declared.Reset.{Reset}
-use Rattle.reset.specs.declared.ResetEnd.{ResetEnd}
 use Rattle.reset.specs.declared.Ending.{Ending as ResetEnding}
 use Rattle.reset.specs.declared.Ending.the-variants as rg
 use Rattle.buffer.specs.Buffer.{byOutcome}
-use Rattle.buffer.specs.Steps.{startFree, makeStepOf, freeStepOf}
-use Rattle.buffer.specs.declared.Fault.{Fault}
+use Rattle.buffer.specs.Steps.{makeStepOf, freeStepOf}
 use Rattle.buffer.specs.declared.Made.{Made}
 use Rattle.buffer.specs.declared.Made.the-variants as m
 use Rattle.buffer.specs.declared.MakeStep.{MakeStep}
@@ -63,7 +59,7 @@ use Rattle.reply.specs.declared.FwInfo.{FwInfo}
 use Rattle.reply.specs.declared.FuncInfo.{FuncInfo}
 use Rattle.reply.specs.declared.PortInfo.{PortInfo}
 use Rattle.reply.specs.Capability.{capabilityOf}
-use Rattle.reply.specs.Replies.{queryFwOf, fwHeld, queryPortOf, queryFuncOf}
+use Rattle.reply.specs.Replies.{queryFwOf, queryPortOf, queryFuncOf}
 use Rattle.layout.specs.Counts.{profileOf}
 use Rattle.layout.specs.declared.Layout.{Layout}
 use Rattle.work.specs.Work.{workStepOf, taskStep, attrWork, claimWork, barOn, makeWork, freeWork, lookStep, cmdWork, partWork, resetOn}
@@ -92,20 +88,18 @@ use Rattle.session.specs.declared.Close.the-variants as k
 use Rattle.session.specs.declared.Failure.{Failure}
 use Rattle.session.specs.declared.Closing.{Closing}
 use Rattle.session.specs.declared.Closing.the-variants as c
-use Rattle.session.specs.declared.Fill.{Fill}
-use Rattle.session.specs.declared.Fill.the-variants as w
 use Rattle.session.specs.declared.Session.{Session}
 use Rattle.session.specs.declared.Planned.{Planned}
 use Rattle.closing.specs.Closing.{isDone, isHeld, UNDOS}
-use Rattle.closing.specs.Plan.{cmdIn, resetIn, onHold, freePlan, givenPlan, outboxPlan, inboxPlan, faPlan, auxPlan, icmPlan, lentPlan, givePlan, resetPlan, stoppedPlan, sendPlan, unmapFaPlan, unmapAuxPlan, unmapPlan, closeHcaPlan, undoSend, undoPlan, stopPlan, closesOf, wasReset, closePlanAt, closePlan}
+use Rattle.closing.specs.Plan.{cmdIn, resetIn, onHold, givenPlan, outboxPlan, inboxPlan, faPlan, auxPlan, icmPlan, lentPlan, stoppedPlan, unmapFaPlan, unmapAuxPlan, unmapPlan, closeHcaPlan, undoSend, undoPlan, stopPlan, closesOf, closePlanAt, closePlan}
 use Rattle.opening.specs.Values.{needsReset, enters, withCatas, withRevision, withCap, withPort, nowStarted}
-use Rattle.opening.specs.Opening.{portsOf, brokenBy}
+use Rattle.opening.specs.Opening.{portsOf}
 use Rattle.opening.specs.Plan as n
-use Rattle.opening.specs.Plan.{attrIn, claimIn, barIn, madeIn, failPlan, failByPlan, funcPlan, makePlan, nextRange, mappedPlan, mapPlan, areaPlan, layoutPlan, portPlan, fwReplied, capReplied, portReplied, funcReplied, bootPlanAt, bootPlan, preparePlanAt, preparePlan, listsAt, listsBoot, lists}
+use Rattle.opening.specs.Plan.{attrIn, claimIn, barIn, madeIn, failPlan, failByPlan, funcPlan, makePlan, nextRange, mappedPlan, mapPlan, areaPlan, layoutPlan, portPlan, fwReplied, capReplied, portReplied, funcReplied, bootPlanAt, bootPlan, preparePlanAt, preparePlan, lists}
 use Rattle.session.specs.declared.Lists.{Lists}
 use Rattle.work.specs.Work.{isResting}
 use Rattle.fw.specs.Follows.{isRunning}
-use Rattle.fw.specs.Calls.{isSession, planOf, planAt, withWork, filled, filledList, begunOf, endedOf, stepTurn, stepOf}
+use Rattle.fw.specs.Calls.{isSession, withWork, filled, stepTurn, stepOf}
 
 
 -- the lists are within their arrays

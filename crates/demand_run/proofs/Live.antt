@@ -1,11 +1,10 @@
 -- Demand 3 is not empty: the events that answer an opening's questions, on a card and a host that keep the rules.
 use Prim.Native.Nat.{ℕ}
-use native.Mathlib.Omega.{arith}
 use mathlib.Core.Bool.{Bool, true, false, _&&_, false≢true}
 use mathlib.Core.List.{List, [], _∷_}
-use mathlib.Core.Option.{Option, some, none}
+use mathlib.Core.Option.{Option, some}
 use mathlib.Core.Path.{_≡_, refl, sym, _∙_, ap, subst}
-use lib.Dec.{eqb, leb}
+use lib.Dec.{eqb}
 use borrow.Author.Tests.{eq-eqb}
 use lib.ListN.{length, replicate, length-replicate}
 use Rattle.fields.specs.Outcome.{pick}
@@ -25,7 +24,7 @@ use Rattle.work.specs.declared.Work.{Work}
 use Rattle.work.specs.declared.Ending.{Ending}
 use Rattle.work.specs.declared.Ending.the-variants as e
 use Rattle.session.specs.Session.{fresh}
-use Rattle.session.specs.Course.{Course, ret, ask, Here, here, Lent, Left, left, blank, Rest, restOf}
+use Rattle.session.specs.Course.{Course, ret, ask, Here, here, Lent, Left, left, Rest, restOf}
 use Rattle.session.specs.declared.Top.{Top}
 use Rattle.session.specs.declared.Stage.{Stage}
 use Rattle.session.specs.declared.Stage.the-variants as g
@@ -34,30 +33,26 @@ use Rattle.session.specs.declared.Failure.the-variants as f
 use Rattle.session.specs.declared.Fill.{Fill}
 use Rattle.session.specs.declared.Fill.the-variants as w
 use Rattle.session.specs.declared.Session.{Session}
-use Rattle.session.specs.declared.Planned.{Planned}
 use Rattle.opening.specs.Opening.{opening}
 use Rattle.opening.specs.Values.{layoutIn}
 use Rattle.opening.specs.Plan.{openPlan}
-use Rattle.fw.specs.Calls.{asksOf, isSession, isLent, openable, answerable, inTime, begins, refusedOf, planOf, withWork, filledIn, wipedIn, wipeOf, openOf, answerOf, answerIn, stepBoxIn, stepOf, stepIn}
+use Rattle.fw.specs.Calls.{asksOf, isSession, isLent, openable, answerable, begins, refusedOf, planOf, withWork, filledIn, wipedIn, wipeOf, openOf, answerOf, answerIn, stepBoxIn, stepOf, stepIn}
 use Rattle.fw.specs.Follows.{courseOf, courseAt, isRunning, hereAfter, Follows}
 use Rattle.fw.specs.declared.Turn.{Turn}
 use Rattle.fw.specs.declared.Wipe.{Wipe}
 use Rattle.fw.specs.declared.Wipe.the-variants as v
 use Rattle.fw.proofs.Session.{session-follows, opens}
 use Rattle.card.specs.Card.{same, Host, World, WorldStep, Allowed}
-use Rattle.card.specs.Owns.{Owns}
 use Rattle.card_calls.specs.SafeCourse.{SafeCourse}
-use Rattle.card_calls.proofs.Courses.{Fair}
 use Rattle.card_calls.proofs.Areas.{filled-is}
 use Rattle.card_calls.proofs.Blocks.{length-mailbox}
 use Rattle.card_calls.proofs.Opening.{length-all, safe-opening}
 use Rattle.card_run.specs.Can.{Whole, CanCourse}
 use Rattle.card_run.proofs.Opening.{IsOpen, world₀, host₀, no-top, lends, lendable, empty, nil, empty-length, opening-runs}
-use Rattle.demand.specs.Events.{Call, callOpen, callAnswer, Event, turn, asked, Stand, Happens, SameBox, boxLeft, isClosing, inboxAfter, Step}
-use Rattle.demand.specs.Demand.{Start}
+use Rattle.demand.specs.Events.{Call, callOpen, callAnswer, Event, asked, Stand, Happens, SameBox, boxLeft, isClosing, Step}
 use Rattle.demand.proofs.Questions.{asked-shown}
 use Rattle.demand.proofs.Demand.{in-good, step-taken}
-use Rattle.demand_run.specs.Run.{Run, Opens, NotEmpty}
+use Rattle.demand_run.specs.Run.{Opens, NotEmpty}
 use Rattle.demand_run.proofs.Alive.{Sized, Busy, Alive, step-alive}
 
 -- THE INBOX keeps its 4,096 bytes
