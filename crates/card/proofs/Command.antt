@@ -1,7 +1,7 @@
 -- What a command leaves, whatever the card does.
 use Prim.Native.Nat.{ℕ, zero, suc, _+_, _*_, _/_, _%_, _^_, _<_, _≤_}
 use native.Mathlib.Omega.{arith}
-use mathlib.Core.Bool.{Bool, true, false, not, _||_, false≢true}
+use mathlib.Core.Bool.{Bool, true, false, not, false≢true}
 use mathlib.Core.List.{List}
 use mathlib.Core.Logic.{_⊎_, inl, inr, ⊎-elim}
 use mathlib.Core.Option.{Option, some, none, Option·some-injective, Option·none-ne-some}
@@ -21,6 +21,7 @@ use Rattle.card.specs.Card.{Held, Mail, Command, Card, effect, result, s
 use Rattle.card.specs.Safe.{Safe}
 use Rattle.card.proofs.Sequence.{safe-pick}
 use Rattle.card.specs.Known.{During, Fits, Going, Loose, Or, Out, Over, Quiet, Stable, Within, postedAs}
+use Rattle.card.proofs.Bools.{or-left, or-right}
 
 -- nothing is pending, and the registers hold f
 abbrev pub At : Held → (ℕ → ℕ) → Card → Type 1
@@ -87,14 +88,6 @@ loose-within p H Q c (inr (h, x, inr y)) =
     record { now = during-result p H h (c .held) (c .status) x (y .2); then = λ q e. absurd (none≢ (y .0) e) }
 
 -- THE POSTED-COMMAND LEMMA
-
-or-left : (a b : Bool) → (a || b) ≡ false → a ≡ false
-or-left true b e = e
-or-left false b e = refl
-
-or-right : (a b : Bool) → (a || b) ≡ false → b ≡ false
-or-right true b e = absurd (false≢true (sym e))
-or-right false b e = e
 
 alike-self : (a b : Bool) → a ≡ b → alike a b ≡ true
 alike-self true b e = sym e

@@ -37,6 +37,7 @@ use Rattle.card.specs.Card.{same, afterReset, Hold, Host, Meets, On, InUse, put
 use Rattle.card.proofs.Owns.{put-same, put-other}
 use Rattle.card_run.specs.Can.{Can}
 use Rattle.card_run.proofs.Steps.{says-read, can-true}
+use Rattle.card.proofs.Bools.{and-true}
 
 -- the task ended so, and the world is as it was
 pub record So {A : Type 0} (a : A) (w v : World) (x : A) : Type 1 where
@@ -203,10 +204,6 @@ module _ (n a pages : ℕ) (fits : a + pages ≤ 2 ^ 52) (w : World) (r : Room n
 
   unused : (d : ℕ) → Meets spot d → InUse given d → ⊥
   unused d y z = let q = r .pages d (given-use d z) in let s = y .0 in let t : ⊥ = omega (arith, q, s) in t
-
-  and-true : (x y : Bool) → x ≡ true → y ≡ true → (x && y) ≡ true
-  and-true true y p q = q
-  and-true false y p q = p
 
   accepted : (isPage (a * 4096) && endsWithin (a * 4096) (pages * 4096)) ≡ true
   accepted = and-true _ _ (eq-eqb (a * 4096 % 4096) 0 (omega arith)) (le-leb (a * 4096 + pages * 4096) (2 ^ 64) (omega (arith, fits)))

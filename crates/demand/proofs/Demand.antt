@@ -1,7 +1,7 @@
 -- THE THEOREM of demand 3: what is left of each call's course is safe, after every event.
 use Prim.Native.Nat.{ℕ, _+_}
 use native.Mathlib.Omega.{arith}
-use mathlib.Core.Bool.{Bool, true, false, _&&_, false≢true}
+use mathlib.Core.Bool.{Bool, true, false, false≢true}
 use mathlib.Core.List.{List, [], _∷_}
 use mathlib.Core.Logic.{_⊎_, inl, inr, ⊎-elim}
 use mathlib.Core.Option.{Option, some, none, Option·some-injective}
@@ -62,6 +62,7 @@ use Rattle.demand.proofs.OnePage.{one-page}
 use Rattle.card.specs.Known.{Empty, Nothing, Quiet}
 use Rattle.card_calls.specs.Owed.{OwedBy}
 use Rattle.card_calls.specs.Holding.{Calm, Knows, Opened}
+use Rattle.card.proofs.Bools.{and-left, and-right}
 
 -- WHAT IS SO AT THE END OF A CALL. Nothing was asked of the host yet; or all is given back, and the card may use no page unless nothing was asked; or all is kept
 record Waiting (k : Host) (w : World) : Type 1 where
@@ -146,14 +147,6 @@ in-short false r y s w p q = absurd (false≢true p)
 in-wrong : {A : Type 0} (t r : Bool) (y s w : A) → t ≡ false → inTime t r y s w ≡ w
 in-wrong true r y s w p = absurd (false≢true (sym p))
 in-wrong false r y s w p = refl
-
-and-left : (a b : Bool) → (a && b) ≡ true → a ≡ true
-and-left true b e = refl
-and-left false b e = e
-
-and-right : (a b : Bool) → (a && b) ≡ true → b ≡ true
-and-right true b e = e
-and-right false b e = absurd (false≢true e)
 
 lent-length : (i o : List ℕ) (u : Top) → isLent i o u ≡ true → length i ≡ 4096
 lent-length i o u e = eqb-true (length i) 4096 (and-left (eqb (length i) 4096) _ e)
@@ -246,11 +239,12 @@ module _ (k : Host) (log : k .log ≡ []) (in-none : k .inbox ≡ none) (out-non
   good : (x : Stand) → Inv base k x → Good base x
   good x i = by-stage (x .session .stage) refl
     where
-      exact : Opened base (x .session .info) (x .session .books) (x .world) → Exact (x .session .info) (x .session .books) (x .world .card)
+      exact : Opened base (x .session .info) (x .session .books) (x .world) → Exact (x .session .info) (x .session .books) (x .world)
       exact o = record {
         fourteen = o .fourteen;
         laid = o .laid;
         icm = o .card .now .icm;
+        boxes = o .boxes;
         one = λ y z d a b. one-page (x .session .books) (o .owns .apart) y z d (o .card .now .icm y d .0 a) (o .card .now .icm z d .0 b);
       }
 

@@ -2,7 +2,7 @@
 use Prim.Native.Nat.{ℕ, zero, suc}
 use mathlib.Core.Bool.{Bool, true, false}
 use mathlib.Core.List.{List}
-use mathlib.Core.Path.{_≡_, subst}
+use mathlib.Core.Path.{_≡_}
 use lib.Dec.{eqb, ltb}
 use lib.ListN.{length}
 use Rattle.fields.specs.Outcome.{Outcome, value, refused, pick}
@@ -94,7 +94,7 @@ use Rattle.opening.specs.Opening.{portsOf}
 use Rattle.opening.specs.Plan as n
 use Rattle.opening.specs.Plan.{attrIn, claimIn, barIn, madeIn, failPlan, failByPlan, funcPlan, makePlan, nextRange, mappedPlan, mapPlan, areaPlan, layoutPlan, portPlan, fwReplied, capReplied, portReplied, funcReplied, bootPlanAt, bootPlan, preparePlanAt, preparePlan, listsAt, listsBoot, lists}
 use Rattle.fw.specs.Calls.{planOf, withWork, filled, begunOf, stepTurn, stepOf}
-use Rattle.card_calls.proofs.Closing.{clean-differs}
+use Rattle.card_calls.proofs.Closing.{clean-differs, reset-differs}
 
 -- a task that asks nothing of the host
 abbrev pub NoHost : Task → Type 0
@@ -247,14 +247,6 @@ module _ (E : Type 0) (s : Session) (no : s .closing ≡ c.Kept → ⊥) (n : �
   lent-freed : (i : ℕ) → Frees E (lentPlan s i n)
   unfolding lentPlan
   lent-freed i = frees-pick E (ltb i (s .books .lists .lends)) _ _ (no, tt) (icm-freed 0)
-
-reset-differs : c.Reset ≡ c.Kept → ⊥
-reset-differs e = subst IsReset e tt
-  where
-    IsReset : Closing → Type 0
-    IsReset c.Clean = ⊥
-    IsReset c.Reset = Unit {0}
-    IsReset c.Kept = ⊥
 
 -- CLOSING
 stopped-suited : (s : Session) (n : ℕ) → Lawful (stoppedPlan s n)

@@ -10,6 +10,7 @@
 --   card/specs/Owns.antt             `Owns`, `outs`, `backs`
 --   card_calls/specs/SafeCourse.antt `Typed`, `Lendable`: what is lent has its types' widths
 --   card_calls/specs/Ranges.antt     `OnRange`, `InRanges`, `AsLaid`
+--   card_calls/specs/Holding.antt    `Boxes`
 --   demand/specs/Events.antt         `Call`, `Event`, `Stand`, `Step`
 --   this file
 -- and of the code's definitions: session's `fresh`; fw's `openOf`, `closeOf`, `answerOf`, `asksOf`; pci's `replyOf`; closing's `lendsFrom`; opening's `rangeAt`.
@@ -31,9 +32,10 @@ use Rattle.session.specs.declared.Closing.the-variants as c
 use Rattle.session.specs.declared.Session.{Session}
 use Rattle.closing.specs.Closing.{lendsFrom}
 use Rattle.fw.specs.Calls.{asksOf}
-use Rattle.card.specs.Card.{Card, Hold, Host, World, MayUse, Allowed}
+use Rattle.card.specs.Card.{Hold, Host, World, MayUse, Allowed}
 use Rattle.card.specs.Owns.{Owns, outs, backs}
 use Rattle.card_calls.specs.Ranges.{InRanges, AsLaid}
+use Rattle.card_calls.specs.Holding.{Boxes}
 use Rattle.demand.specs.Events.{Call, callOpen, callClose, callAnswer, Event, turn, asked, Stand, Step}
 
 -- (a) The question that an answer answers was one that a session may ask: see `Allowed`.
@@ -47,11 +49,13 @@ abbrev pub QuestionKept : Stand → Event → Type 0
 QuestionKept x e = QuestionBy (turn (x .session) e .refusal) (e .call) (x .session) (e .inbox) (x .world)
 
 -- (b)
-pub record Exact (n : Info) (b : Books) (k : Card) : Type 1 where
+pub record Exact (n : Info) (b : Books) (w : World) : Type 1 where
   pub fourteen : b .lists .ranges ≡ 14
   pub laid : AsLaid n b 14
-  pub icm : (x d : ℕ) → k .held .icm x d ↔ InRanges b x d
-  pub one : (x y d : ℕ) → k .held .icm x d → k .held .icm y d → x ≡ y
+  pub icm : (x d : ℕ) → w .card .held .icm x d ↔ InRanges b x d
+  pub one : (x y d : ℕ) → w .card .held .icm x d → w .card .held .icm y d → x ≡ y
+  -- what the rules take for the session's mailboxes are those of its books
+  pub boxes : Boxes b (w .host)
 
 -- (c) "every page handed over was given back exactly once for each handing over and the card may use none of them"; where nothing was handed over there is none
 pub record Returned (w : World) : Type 1 where
@@ -73,7 +77,7 @@ pub record Nothing : Type 1 where
 
 abbrev pub GoodAt : (ℕ → Option Hold) → Stage → Stand → Type 1
 GoodAt base g.Fresh x = Nothing
-GoodAt base g.Open x = Exact (x .session .info) (x .session .books) (x .world .card)
+GoodAt base g.Open x = Exact (x .session .info) (x .session .books) (x .world)
 GoodAt base g.Ended x = EndedBy base (x .session .books) (x .world) (x .began) (x .session .closing)
 GoodAt base (g.Prepare y) x = Nothing
 GoodAt base (g.Boot y) x = Nothing

@@ -1,7 +1,7 @@
 -- What the machine's plans keep, so that it goes on: the lists are within their arrays, and where a call runs a task is under way.
 use Prim.Native.Nat.{ℕ, zero, suc, _+_}
 use native.Mathlib.Omega.{arith}
-use mathlib.Core.Bool.{Bool, true, false, _&&_, false≢true}
+use mathlib.Core.Bool.{Bool, true, false, false≢true}
 use mathlib.Core.List.{List}
 use mathlib.Core.Path.{_≡_, refl, sym, _∙_, ap, subst}
 use lib.Dec.{eqb, ltb, leb}
@@ -100,7 +100,7 @@ use Rattle.session.specs.declared.Lists.{Lists}
 use Rattle.work.specs.Work.{isResting}
 use Rattle.fw.specs.Follows.{isRunning}
 use Rattle.fw.specs.Calls.{isSession, withWork, filled, stepTurn, stepOf}
-
+use Rattle.card.proofs.Bools.{and-left, and-right, and-true}
 
 -- the lists are within their arrays
 abbrev pub Sized : Session → Type 0
@@ -310,18 +310,6 @@ module _ (i : List ℕ) (len : length i ≡ 4096) where
   map-next : (s : Session) → Sized s → (x : Area) (y : Cutter) (top : Top) → Begun (mapPlan s x y top)
   unfolding mapPlan
   map-next s ok x y top = begun-pick (eqb (y .left) 0) _ _ (mapped s ok x top) (listed s ok x y (eqb (length i) 4096) (eq-eqb (length i) 4096 len))
-
-  and-left : (x y : Bool) → (x && y) ≡ true → x ≡ true
-  and-left true y e = refl
-  and-left false y e = e
-
-  and-right : (x y : Bool) → (x && y) ≡ true → y ≡ true
-  and-right true y e = e
-  and-right false y e = absurd (false≢true e)
-
-  and-true : (x y : Bool) → x ≡ true → y ≡ true → (x && y) ≡ true
-  and-true true y p q = q
-  and-true false y p q = p
 
   -- one range more, while there is room
   longer : (r m : ℕ) (b : Bool) → ltb r 14 ≡ b → leb r 14 ≡ true → leb (pick b (r + 1) r) 14 ≡ true

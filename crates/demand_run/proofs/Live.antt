@@ -1,6 +1,6 @@
 -- Demand 3 is not empty: the events that answer an opening's questions, on a card and a host that keep the rules.
 use Prim.Native.Nat.{ℕ}
-use mathlib.Core.Bool.{Bool, true, false, _&&_, false≢true}
+use mathlib.Core.Bool.{Bool, true, false, false≢true}
 use mathlib.Core.List.{List, [], _∷_}
 use mathlib.Core.Option.{Option, some}
 use mathlib.Core.Path.{_≡_, refl, sym, _∙_, ap, subst}
@@ -54,6 +54,7 @@ use Rattle.demand.proofs.Questions.{asked-shown}
 use Rattle.demand.proofs.Demand.{in-good, step-taken}
 use Rattle.demand_run.specs.Run.{Opens, NotEmpty}
 use Rattle.demand_run.proofs.Alive.{Sized, Busy, Alive, step-alive}
+use Rattle.card.proofs.Bools.{and-true}
 
 -- THE INBOX keeps its 4,096 bytes
 fields-length : (fs : List Field) (i : List ℕ) → length i ≡ 4096 → length (ini.filledBy i fs) ≡ 4096
@@ -103,10 +104,6 @@ busy-of g.Ended x q b = absurd (false≢true q)
 busy-of (g.Prepare y) x q b = b
 busy-of (g.Boot y) x q b = b
 busy-of (g.Close y) x q b = b
-
-and-true : (x y : Bool) → x ≡ true → y ≡ true → (x && y) ≡ true
-and-true true y p q = q
-and-true false y p q = p
 
 abbrev stand : Session → List ℕ → World → Host → Stand
 stand s i w b = record { session = s; inbox = i; world = w; began = b }
@@ -168,8 +165,11 @@ live (ask q l k) P s h w b e al len safe (r, m, y, ok, (a, res, d), st, can) =
     record {
       events = event (callAnswer a res) (h .inbox) m ∷ next .events;
       end = next .end;
-      run = (stand (stepOf s a res (h .inbox) (m .outbox) (m .undo) .session) (stepIn s a res (h .inbox) (m .outbox) (m .undo)) y (pick (isClosing (s .stage)) b (y .host)),
-      answers s h w b q r m y a res len (al .0) (fol .0) allowed ok d st, next .run);
+      run = (
+        stand (stepOf s a res (h .inbox) (m .outbox) (m .undo) .session) (stepIn s a res (h .inbox) (m .outbox) (m .undo)) y (pick (isClosing (s .stage)) b (y .host)),
+        answers s h w b q r m y a res len (al .0) (fol .0) allowed ok d st,
+        next .run,
+      );
       stage = next .stage;
     }
   where
@@ -203,15 +203,14 @@ opened = record {
 
 safe : SafeCourse world₀ (opening (here empty empty no-top)) Any
 safe =
-    safe-opening (host₀ .hand) Any host₀ (λ n y z b w e o q. record { }) (λ n y b w o. record { }) (λ n b w o. record { }) (λ n y b w e. record { }) (here empty empty no-top) world₀
+    safe-opening (host₀ .hand) Any host₀ (λ n y z b w e o q. record {}) (λ n y b w o. record {}) (λ n b w o. record {}) (λ n y b w e. record {}) (here empty empty no-top) world₀
     (record { inbox = empty-length; outbox = nil; undo = first .lendable .undo }) refl (record { own = tt; new = tt; apart = tt; others = λ h e. refl }) refl refl
 
 pub not-empty : NotEmpty
 not-empty =
     let next =
     live (opening (here empty empty no-top)) Any (openPlan fresh no-top .session) (here empty empty no-top) world₀ host₀ (opens (here empty empty no-top)) (refl, refl) empty-length safe
-    (opening-runs (here empty empty no-top)) in
-    (
+    (opening-runs (here empty empty no-top)) in (
       stand fresh empty world₀ host₀,
       record { session = refl; log = refl; inbox = refl; outbox = refl },
       record {
