@@ -38,15 +38,9 @@ use Rattle.card_calls.specs.Ranges.{InRanges, AsLaid}
 use Rattle.card_calls.specs.Holding.{Boxes}
 use Rattle.demand.specs.Events.{Call, callOpen, callClose, callAnswer, Event, turn, asked, Stand, Step}
 
--- (a) The question that an answer answers was one that a session may ask: see `Allowed`.
-abbrev pub QuestionBy : Failure → Call → Session → (inbox : List ℕ) → World → Type 0
-QuestionBy f.Nothing callOpen s i w = Unit {0}
-QuestionBy f.Nothing callClose s i w = Unit {0}
-QuestionBy f.Nothing (callAnswer a r) s i w = (y : Ask) → asked (asksOf s) i ≡ some y → Allowed i w y
-QuestionBy (f.By z) c s i w = Unit {0}
-
-abbrev pub QuestionKept : Stand → Event → Type 0
-QuestionKept x e = QuestionBy (turn (x .session) e .refusal) (e .call) (x .session) (e .inbox) (x .world)
+-- (a) The open question is one that a session may ask: see `Allowed`. "A page is given back by the question that frees it", so this is said before any answer.
+abbrev pub QuestionKept : Stand → Type 0
+QuestionKept x = (y : Ask) → asked (asksOf (x .session)) (x .inbox) ≡ some y → Allowed (x .inbox) (x .world) y
 
 -- (b)
 pub record Exact (n : Info) (b : Books) (w : World) : Type 1 where
@@ -72,7 +66,7 @@ EndedBy base b w k c.Clean = Returned w
 EndedBy base b w k c.Reset = Returned w
 EndedBy base b w k c.Kept = Kept base b w k
 
--- while a call runs, and before the first, nothing more is said
+-- while a call runs, and before the first, nothing more is said than (a)
 pub record Nothing : Type 1 where
 
 abbrev pub GoodAt : (ℕ → Option Hold) → Stage → Stand → Type 1
@@ -83,8 +77,9 @@ GoodAt base (g.Prepare y) x = Nothing
 GoodAt base (g.Boot y) x = Nothing
 GoodAt base (g.Close y) x = Nothing
 
-abbrev pub Good : (ℕ → Option Hold) → Stand → Type 1
-Good base x = GoodAt base (x .session .stage) x
+pub record Good (base : ℕ → Option Hold) (x : Stand) : Type 1 where
+  pub question : QuestionKept x
+  pub state : GoodAt base (x .session .stage) x
 
 -- A FRESH SESSION, on any card; the host may have handed out anything before, and none of it to this session
 pub record Start (x : Stand) : Type 1 where
@@ -96,7 +91,7 @@ pub record Start (x : Stand) : Type 1 where
 -- after each of the events, whatever the world does at each
 abbrev pub Always : (ℕ → Option Hold) → List Event → Stand → Type 1
 Always base [] x = Good base x
-Always base (e ∷ es) x = Good base x × ((y : Stand) → Step x e y → QuestionKept x e × Always base es y)
+Always base (e ∷ es) x = Good base x × ((y : Stand) → Step x e y → Always base es y)
 
 -- THE STATEMENT
 abbrev pub Demand : Type 1
