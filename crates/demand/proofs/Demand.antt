@@ -315,22 +315,22 @@ module _ (k : Host) (log : k .log ≡ []) (in-none : k .inbox ≡ none) (out-non
   -- A REFUSED CALL leaves everything; a pending command may end
   refused : (x : Stand) (e : Event) (y : Stand) (z : Refusal) → turn (x .session) e .session ≡ x .session → turn (x .session) e .refusal ≡ f.By z → Inv base k x → Step x e y → Inv base k y
   refused x e y z s r i st =
-    record {
-      there = i .there;
-      box = i .box ∙ sym inbox;
-      safe =
-          subst (λ (h : Session). SafeCourse (y .world) (courseOf h (i .there)) (Post base k)) (sym session)
-          (subst (λ (v : World). SafeCourse v (courseOf (x .session) (i .there)) (Post base k)) (sym (rests-at (x .world) (y .world) (rests .1)))
-          (course-settled (Post base k) (courseOf (x .session) (i .there)) (x .world) (y .world .card) (rests .0)
-          (λ h p. post-settled base k (x .world) (y .world .card) (h .info) (h .books) (h .closing) (h .stage) (rests .0) p) (i .safe)));
-      balanced = subst (Balanced base) (sym (rests .1)) (i .balanced);
-      suited = subst Suited (sym session) (i .suited);
-      held =
-          subst (λ (h : Session). HeldAt (h .stage) (h .closing) (y .world .host ≡ y .began)) (sym session)
-          (held-map (x .session .stage) (x .session .closing) (x .world .host ≡ x .began) (y .world .host ≡ y .began)
-          (began-kept (isClosing (x .session .stage)) (x .began) (y .began) (x .world .host) (y .world .host) (st .began) (rests .1)) (i .held));
-      long = λ q. ap length inbox ∙ i .long (ap (λ (h : Session). isRunning (h .stage)) (sym session) ∙ q);
-    }
+      record {
+        there = i .there;
+        box = i .box ∙ sym inbox;
+        safe =
+            subst (λ (h : Session). SafeCourse (y .world) (courseOf h (i .there)) (Post base k)) (sym session)
+            (subst (λ (v : World). SafeCourse v (courseOf (x .session) (i .there)) (Post base k)) (sym (rests-at (x .world) (y .world) (rests .1)))
+            (course-settled (Post base k) (courseOf (x .session) (i .there)) (x .world) (y .world .card) (rests .0)
+            (λ h p. post-settled base k (x .world) (y .world .card) (h .info) (h .books) (h .closing) (h .stage) (rests .0) p) (i .safe)));
+        balanced = subst (Balanced base) (sym (rests .1)) (i .balanced);
+        suited = subst Suited (sym session) (i .suited);
+        held =
+            subst (λ (h : Session). HeldAt (h .stage) (h .closing) (y .world .host ≡ y .began)) (sym session)
+            (held-map (x .session .stage) (x .session .closing) (x .world .host ≡ x .began) (y .world .host ≡ y .began)
+            (began-kept (isClosing (x .session .stage)) (x .began) (y .began) (x .world .host) (y .world .host) (st .began) (rests .1)) (i .held));
+        long = λ q. ap length inbox ∙ i .long (ap (λ (h : Session). isRunning (h .stage)) (sym session) ∙ q);
+      }
     where
       rests : Rests (x .world) (y .world)
       rests = subst (λ (h : Failure). Happens h (e .call) (x .session) (e .inbox) (x .world) (y .world)) r (st .world)
@@ -348,19 +348,19 @@ module _ (k : Host) (log : k .log ≡ []) (in-none : k .inbox ≡ none) (out-non
 
     opened-by : openable (x .session) ≡ true → isLent n o u ≡ true → Step x (event callOpen n o u) y → Inv base k y
     opened-by a b st =
-      record {
-        there = here n o u;
-        box = sym (st .left ∙ ap (λ (h : Turn). boxLeft (h .refusal) n (x .inbox)) t);
-        safe =
-            subst (λ (h : Session). SafeCourse (y .world) (courseOf h (here n o u)) (Post base k)) (sym session)
-            (subst (λ (h : Course Rest). SafeCourse (y .world) h (Post base k)) (sym (opens (here n o u)))
-            (safe-opening base (Post base k) k back kept opened early (here n o u) (y .world) (fair (st .lendable) b) host (subst (Owns base []) (sym host) start-owns)
-            (ap (λ (h : Host). h .inbox) host ∙ in-none) (ap (λ (h : Host). h .outbox) host ∙ out-none)));
-        balanced = subst (Balanced base) (sym (rests .1)) (i .balanced);
-        suited = subst Suited (sym session) tt;
-        held = subst (λ (h : Session). HeldAt (h .stage) (h .closing) (y .world .host ≡ y .began)) (sym session) tt;
-        long = λ q. ap length (st .left ∙ ap (λ (h : Turn). boxLeft (h .refusal) n (x .inbox)) t) ∙ lent-length n o u b;
-      }
+        record {
+          there = here n o u;
+          box = sym (st .left ∙ ap (λ (h : Turn). boxLeft (h .refusal) n (x .inbox)) t);
+          safe =
+              subst (λ (h : Session). SafeCourse (y .world) (courseOf h (here n o u)) (Post base k)) (sym session)
+              (subst (λ (h : Course Rest). SafeCourse (y .world) h (Post base k)) (sym (opens (here n o u)))
+              (safe-opening base (Post base k) k back kept opened early (here n o u) (y .world) (fair (st .lendable) b) host (subst (Owns base []) (sym host) start-owns)
+              (ap (λ (h : Host). h .inbox) host ∙ in-none) (ap (λ (h : Host). h .outbox) host ∙ out-none)));
+          balanced = subst (Balanced base) (sym (rests .1)) (i .balanced);
+          suited = subst Suited (sym session) tt;
+          held = subst (λ (h : Session). HeldAt (h .stage) (h .closing) (y .world .host ≡ y .began)) (sym session) tt;
+          long = λ q. ap length (st .left ∙ ap (λ (h : Turn). boxLeft (h .refusal) n (x .inbox)) t) ∙ lent-length n o u b;
+        }
       where
         t : openOf (x .session) n o u ≡ begins (openPlan fresh u)
         t = in-good (openable (x .session)) (isLent n o u) _ _ _ a b
@@ -380,26 +380,26 @@ module _ (k : Host) (log : k .log ≡ []) (in-none : k .inbox ≡ none) (out-non
     -- AN ACCEPTED CLOSE
     closed-by : closable (x .session) ≡ true → isLent n o u ≡ true → Step x (event callClose n o u) y → Inv base k y
     closed-by a b st =
-      record {
-        there = here n o (counted u (closingOf (x .session) u .undo));
-        box = sym (st .left ∙ ap (λ (h : Turn). boxLeft (h .refusal) n (x .inbox)) t);
-        safe =
-            subst (λ (h : Session). SafeCourse (y .world) (courseOf h (here n o (counted u (closingOf (x .session) u .undo)))) (Post base k)) (sym session)
-            (subst (λ (h : Course Rest). SafeCourse (y .world) h (Post base k)) (sym (closes (x .session) (here n o u)))
-            (safe-stopping (x .session .info) f.Nothing (Post base k) base (y .world .host)
-            (λ z d v e s r. back (x .session .info) f.Nothing z (emptied d) v e s r) (λ d v s r. kept (x .session .info) f.Nothing d v s)
-            (x .session .books) (here n o u) (y .world) (was .entries .addressed) (fair (st .lendable) b) refl
-            (subst (Owns base (lendsFrom (x .session .books) 0)) (sym (rests .1)) (was .owns))
-            (λ z. (
-              within-more (Knows (x .session .books)) (OwedBy (x .session .books)) Calm (λ p. Unit {0}) (y .world .card) (λ h s. knows-owed (x .session .books) h (was .entries) s) (λ p s. tt)
-                  (within-stable (Knows (x .session .books)) Calm (x .world .card) (y .world .card) (rests .0) (was .card)),
-              λ s. none-settled (x .world .card) (y .world .card) (rests .0) (was .quiet s),
-            ))));
-        balanced = subst (Balanced base) (sym (rests .1)) (i .balanced);
-        suited = subst Suited (sym session) (stop-suited (withoutFailure (x .session)) u);
-        held = held-all (y .session .stage) (y .session .closing) (y .world .host ≡ y .began) (sym (st .began ∙ ap (λ (h : Stage). pick (isClosing h) (x .began) (y .world .host)) stage));
-        long = λ q. ap length (st .left ∙ ap (λ (h : Turn). boxLeft (h .refusal) n (x .inbox)) t) ∙ lent-length n o u b;
-      }
+        record {
+          there = here n o (counted u (closingOf (x .session) u .undo));
+          box = sym (st .left ∙ ap (λ (h : Turn). boxLeft (h .refusal) n (x .inbox)) t);
+          safe =
+              subst (λ (h : Session). SafeCourse (y .world) (courseOf h (here n o (counted u (closingOf (x .session) u .undo)))) (Post base k)) (sym session)
+              (subst (λ (h : Course Rest). SafeCourse (y .world) h (Post base k)) (sym (closes (x .session) (here n o u)))
+              (safe-stopping (x .session .info) f.Nothing (Post base k) base (y .world .host)
+              (λ z d v e s r. back (x .session .info) f.Nothing z (emptied d) v e s r) (λ d v s r. kept (x .session .info) f.Nothing d v s)
+              (x .session .books) (here n o u) (y .world) (was .entries .addressed) (fair (st .lendable) b) refl
+              (subst (Owns base (lendsFrom (x .session .books) 0)) (sym (rests .1)) (was .owns))
+              (λ z. (
+                within-more (Knows (x .session .books)) (OwedBy (x .session .books)) Calm (λ p. Unit {0}) (y .world .card) (λ h s. knows-owed (x .session .books) h (was .entries) s) (λ p s. tt)
+                    (within-stable (Knows (x .session .books)) Calm (x .world .card) (y .world .card) (rests .0) (was .card)),
+                λ s. none-settled (x .world .card) (y .world .card) (rests .0) (was .quiet s),
+              ))));
+          balanced = subst (Balanced base) (sym (rests .1)) (i .balanced);
+          suited = subst Suited (sym session) (stop-suited (withoutFailure (x .session)) u);
+          held = held-all (y .session .stage) (y .session .closing) (y .world .host ≡ y .began) (sym (st .began ∙ ap (λ (h : Stage). pick (isClosing h) (x .began) (y .world .host)) stage));
+          long = λ q. ap length (st .left ∙ ap (λ (h : Turn). boxLeft (h .refusal) n (x .inbox)) t) ∙ lent-length n o u b;
+        }
       where
         t : closeOf (x .session) n o u ≡ closingOf (x .session) u
         t = in-good (closable (x .session)) (isLent n o u) _ _ _ a b
@@ -429,20 +429,17 @@ module _ (k : Host) (log : k .log ≡ []) (in-none : k .inbox ≡ none) (out-non
       Onward v = SafeCourse v (courseOf (stepOf (x .session) a res n o u .session) (hereAfter (x .session) a res h₁ m)) (Post base k) × Balanced base (v .host)
 
       by-course : (z : Course Rest) → Follows (x .session) h₁ z → SafeCourse (x .world) z (Post base k) → Lendable m → (v : World) (p : Ask) (r : Reply p) → asked (asksOf (x .session)) n ≡ some p
-          → replyOf p a res ≡ some r → WorldStep (x .world) p r v → Allowed n (x .world) p × Onward v
+          → replyOf p a res ≡ some r → WorldStep (x .world) p r v → Onward v
       by-course (ret l r₁) fol s ok v p r e₁ e₂ st = absurd (nothing-asked (asksOf (x .session)) n p (fol .0) e₁)
       by-course (ask q l d) fol s ok v p r e₁ e₂ st =
           let al : Allowed n (x .world) q = subst (λ (z : Left). Allowed (z .inbox) (x .world) q) (fol .1) (s .0) in
           let same : q ≡ p = Option·some-injective q p (sym (ap (λ z. asked z n) (fol .0) ∙ asked-shown q n (x .world) al) ∙ e₁) in
-          subst (λ (z : Ask). (r : Reply z) → replyOf z a res ≡ some r → WorldStep (x .world) z r v → Allowed n (x .world) z × Onward v) same
+          subst (λ (z : Ask). (r : Reply z) → replyOf z a res ≡ some r → WorldStep (x .world) z r v → Onward v) same
           (λ r e st. (
-            al,
-            (
-              subst (λ (z : Course Rest). SafeCourse v z (Post base k))
-                  (sym (subst (λ (z : Option (Reply q)). Right z (λ r. courseOf (stepOf (x .session) a res n o u .session) (hereAfter (x .session) a res h₁ m) ≡ d r m) (Unit {0})) e (fol .2 a res m)))
-                  (s .1 r m v ok st),
-              step-balanced base q r n (x .world) v al st (i .balanced),
-            ),
+            subst (λ (z : Course Rest). SafeCourse v z (Post base k))
+                (sym (subst (λ (z : Option (Reply q)). Right z (λ r. courseOf (stepOf (x .session) a res n o u .session) (hereAfter (x .session) a res h₁ m) ≡ d r m) (Unit {0})) e (fol .2 a res m)))
+                (s .1 r m v ok st),
+            step-balanced base q r n (x .world) v al st (i .balanced),
           )) r e₂ st
 
       -- what is so of the host when the closing began
@@ -463,15 +460,15 @@ module _ (k : Host) (log : k .log ≡ []) (in-none : k .inbox ≡ none) (out-non
 
       answered-by : answerable (x .session) a ≡ true → isLent n o u ≡ true → Step x (event (callAnswer a res) n o u) y → Inv base k y
       answered-by d b st =
-        record {
-          there = hereAfter (x .session) a res h₁ m;
-          box = sym (st .left ∙ ap (λ (h : Failure). boxLeft h (answerIn (x .session) a res n o u) (x .inbox)) (ap (λ (h : Turn). h .refusal) turned ∙ taken) ∙ boxed);
-          safe = subst (λ (h : Session). SafeCourse (y .world) (courseOf h (hereAfter (x .session) a res h₁ m)) (Post base k)) (sym session) (done .1 .0);
-          balanced = done .1 .1;
-          suited = subst Suited (sym session) (both .0);
-          held = subst (λ (h : Session). HeldAt (h .stage) (h .closing) (y .world .host ≡ y .began)) (sym session) (both .1);
-          long = λ q. ap length (st .left ∙ ap (λ (h : Failure). boxLeft h (answerIn (x .session) a res n o u) (x .inbox)) (ap (λ (h : Turn). h .refusal) turned ∙ taken) ∙ boxed) ∙ step-length (x .session) a res n o u (lent-length n o u b);
-        }
+          record {
+            there = hereAfter (x .session) a res h₁ m;
+            box = sym (st .left ∙ ap (λ (h : Failure). boxLeft h (answerIn (x .session) a res n o u) (x .inbox)) (ap (λ (h : Turn). h .refusal) turned ∙ taken) ∙ boxed);
+            safe = subst (λ (h : Session). SafeCourse (y .world) (courseOf h (hereAfter (x .session) a res h₁ m)) (Post base k)) (sym session) (done .0);
+            balanced = done .1;
+            suited = subst Suited (sym session) (both .0);
+            held = subst (λ (h : Session). HeldAt (h .stage) (h .closing) (y .world .host ≡ y .began)) (sym session) (both .1);
+            long = λ q. ap length (st .left ∙ ap (λ (h : Failure). boxLeft h (answerIn (x .session) a res n o u) (x .inbox)) (ap (λ (h : Turn). h .refusal) turned ∙ taken) ∙ boxed) ∙ step-length (x .session) a res n o u (lent-length n o u b);
+          }
         where
           turned : answerOf (x .session) a res n o u ≡ stepOf (x .session) a res n o u
           turned = in-good (answerable (x .session) a) (isLent n o u) _ _ _ d b
@@ -491,7 +488,7 @@ module _ (k : Host) (log : k .log ≡ []) (in-none : k .inbox ≡ none) (out-non
           lent : n ≡ x .inbox
           lent = subst (λ (h : Failure). SameBox h n (x .inbox)) (ap (λ (h : Turn). h .refusal) turned ∙ taken) (st .lent)
 
-          done : Allowed n (x .world) (world .0) × Onward (y .world)
+          done : Onward (y .world)
           done =
               by-course (courseOf (x .session) h₁)
               (follows x i n (world .0) (world .2) (lent-length n o u b))

@@ -1,9 +1,8 @@
 -- The inbox keeps its 4,096 bytes.
 use Prim.Native.Nat.{ℕ}
-use mathlib.Core.Bool.{Bool, true, false, false≢true}
-use mathlib.Core.List.{List, [], _∷_}
-use mathlib.Core.Option.{Option, some}
-use mathlib.Core.Path.{_≡_, refl, sym, _∙_, ap, subst}
+use mathlib.Core.Bool.{Bool}
+use mathlib.Core.List.{List}
+use mathlib.Core.Path.{_≡_, _∙_, ap}
 use lib.Dec.{eqb}
 use borrow.Author.Tests.{eq-eqb}
 use lib.ListN.{length, replicate, length-replicate}
@@ -12,40 +11,22 @@ use Rattle.dma.specs.PageList.{firstBlocks}
 use Rattle.init.specs.Init.{fieldsOf, initOf, modStatCfg}
 use Rattle.init.specs.Init as ini
 use Rattle.init.specs.declared.Field.{Field}
-use Rattle.pci.specs.Script.{Ask, Reply, shown, replyOf}
-use Rattle.pci.specs.Suits.{suitsOf}
-use Rattle.pci.specs.Machine.{Right}
-use Rattle.pci.proofs.Replies.{isReply, suits-reply}
 use Rattle.pci.specs.declared.Answer.{Answer}
-use Rattle.pci.specs.declared.Refusal.the-variants as x
-use Rattle.work.specs.Work.{isResting, workStepOf}
-use Rattle.work.specs.declared.Task.{Task}
+use Rattle.work.specs.Work.{workStepOf}
 use Rattle.work.specs.declared.Work.{Work}
 use Rattle.work.specs.declared.Ending.{Ending}
 use Rattle.work.specs.declared.Ending.the-variants as e
-use Rattle.session.specs.Session.{fresh}
-use Rattle.session.specs.Course.{Course, ret, ask, Here, here, Lent, Left, left, Rest, restOf}
 use Rattle.session.specs.declared.Top.{Top}
-use Rattle.session.specs.declared.Stage.{Stage}
-use Rattle.session.specs.declared.Stage.the-variants as g
-use Rattle.session.specs.declared.Failure.{Failure}
-use Rattle.session.specs.declared.Failure.the-variants as f
 use Rattle.session.specs.declared.Fill.{Fill}
 use Rattle.session.specs.declared.Fill.the-variants as w
 use Rattle.session.specs.declared.Session.{Session}
-use Rattle.opening.specs.Opening.{opening}
 use Rattle.opening.specs.Values.{layoutIn}
-use Rattle.opening.specs.Plan.{openPlan}
-use Rattle.fw.specs.Calls.{asksOf, isSession, isLent, openable, answerable, begins, refusedOf, planOf, withWork, filledIn, wipedIn, wipeOf, openOf, answerOf, answerIn, stepBoxIn, stepOf, stepIn}
-use Rattle.fw.specs.Follows.{courseOf, courseAt, isRunning, hereAfter, Follows}
-use Rattle.fw.specs.declared.Turn.{Turn}
+use Rattle.fw.specs.Calls.{planOf, withWork, filledIn, wipedIn, wipeOf, stepBoxIn, stepIn}
 use Rattle.fw.specs.declared.Wipe.{Wipe}
 use Rattle.fw.specs.declared.Wipe.the-variants as v
-use Rattle.fw.proofs.Session.{session-follows, opens}
-use Rattle.card_calls.specs.SafeCourse.{SafeCourse}
 use Rattle.card_calls.proofs.Areas.{filled-is}
 use Rattle.card_calls.proofs.Blocks.{length-mailbox}
-use Rattle.card_calls.proofs.Opening.{length-all, safe-opening}
+use Rattle.card_calls.proofs.Opening.{length-all}
 
 fields-length : (fs : List Field) (i : List ℕ) → length i ≡ 4096 → length (ini.filledBy i fs) ≡ 4096
 fields-length fs i l = ap (λ (b : Bool). length (pick b (ini.mailboxOf fs) i)) (eq-eqb (length i) 4096 l) ∙ length-all (replicate 4096 0) fs ∙ length-replicate {A = ℕ} 4096 0

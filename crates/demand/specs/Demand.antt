@@ -25,18 +25,15 @@ use Rattle.session.specs.declared.Books.{Books}
 use Rattle.session.specs.declared.Info.{Info}
 use Rattle.session.specs.declared.Stage.{Stage}
 use Rattle.session.specs.declared.Stage.the-variants as g
-use Rattle.session.specs.declared.Failure.{Failure}
-use Rattle.session.specs.declared.Failure.the-variants as f
 use Rattle.session.specs.declared.Closing.{Closing}
 use Rattle.session.specs.declared.Closing.the-variants as c
-use Rattle.session.specs.declared.Session.{Session}
 use Rattle.closing.specs.Closing.{lendsFrom}
 use Rattle.fw.specs.Calls.{asksOf}
 use Rattle.card.specs.Card.{Hold, Host, World, MayUse, Allowed}
 use Rattle.card.specs.Owns.{Owns, outs, backs}
 use Rattle.card_calls.specs.Ranges.{InRanges, AsLaid}
 use Rattle.card_calls.specs.Holding.{Boxes}
-use Rattle.demand.specs.Events.{Call, callOpen, callClose, callAnswer, Event, turn, asked, Stand, Step}
+use Rattle.demand.specs.Events.{Event, asked, Stand, Step}
 
 -- (a) The open question is one that a session may ask: see `Allowed`. "A page is given back by the question that frees it", so this is said before any answer.
 abbrev pub QuestionKept : Stand → Type 0

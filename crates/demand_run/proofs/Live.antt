@@ -6,47 +6,33 @@ use mathlib.Core.Option.{Option, some}
 use mathlib.Core.Path.{_≡_, refl, sym, _∙_, ap, subst}
 use lib.Dec.{eqb}
 use borrow.Author.Tests.{eq-eqb}
-use lib.ListN.{length, replicate, length-replicate}
+use lib.ListN.{length}
 use Rattle.fields.specs.Outcome.{pick}
-use Rattle.dma.specs.PageList.{firstBlocks}
-use Rattle.init.specs.Init.{fieldsOf, initOf, modStatCfg}
-use Rattle.init.specs.Init as ini
-use Rattle.init.specs.declared.Field.{Field}
 use Rattle.pci.specs.Script.{Ask, Reply, shown, replyOf}
 use Rattle.pci.specs.Suits.{suitsOf}
 use Rattle.pci.specs.Machine.{Right}
 use Rattle.pci.proofs.Replies.{isReply, suits-reply}
 use Rattle.pci.specs.declared.Answer.{Answer}
 use Rattle.pci.specs.declared.Refusal.the-variants as x
-use Rattle.work.specs.Work.{isResting, workStepOf}
+use Rattle.work.specs.Work.{isResting}
 use Rattle.work.specs.declared.Task.{Task}
-use Rattle.work.specs.declared.Work.{Work}
-use Rattle.work.specs.declared.Ending.{Ending}
 use Rattle.work.specs.declared.Ending.the-variants as e
 use Rattle.session.specs.Session.{fresh}
 use Rattle.session.specs.Course.{Course, ret, ask, Here, here, Lent, Left, left, Rest, restOf}
-use Rattle.session.specs.declared.Top.{Top}
 use Rattle.session.specs.declared.Stage.{Stage}
 use Rattle.session.specs.declared.Stage.the-variants as g
 use Rattle.session.specs.declared.Failure.{Failure}
 use Rattle.session.specs.declared.Failure.the-variants as f
-use Rattle.session.specs.declared.Fill.{Fill}
-use Rattle.session.specs.declared.Fill.the-variants as w
 use Rattle.session.specs.declared.Session.{Session}
 use Rattle.opening.specs.Opening.{opening}
-use Rattle.opening.specs.Values.{layoutIn}
 use Rattle.opening.specs.Plan.{openPlan}
-use Rattle.fw.specs.Calls.{asksOf, isSession, isLent, openable, answerable, begins, refusedOf, planOf, withWork, filledIn, wipedIn, wipeOf, openOf, answerOf, answerIn, stepBoxIn, stepOf, stepIn}
+use Rattle.fw.specs.Calls.{asksOf, isSession, isLent, openable, answerable, begins, refusedOf, openOf, answerOf, answerIn, stepOf, stepIn}
 use Rattle.fw.specs.Follows.{courseOf, courseAt, isRunning, hereAfter, Follows}
 use Rattle.fw.specs.declared.Turn.{Turn}
-use Rattle.fw.specs.declared.Wipe.{Wipe}
-use Rattle.fw.specs.declared.Wipe.the-variants as v
 use Rattle.fw.proofs.Session.{session-follows, opens}
 use Rattle.card.specs.Card.{same, Host, World, WorldStep, Allowed}
 use Rattle.card_calls.specs.SafeCourse.{SafeCourse}
-use Rattle.card_calls.proofs.Areas.{filled-is}
-use Rattle.card_calls.proofs.Blocks.{length-mailbox}
-use Rattle.card_calls.proofs.Opening.{length-all, safe-opening}
+use Rattle.card_calls.proofs.Opening.{safe-opening}
 use Rattle.card_run.specs.Can.{Whole, CanCourse}
 use Rattle.card_run.proofs.Opening.{IsOpen, world₀, host₀, no-top, lends, lendable, empty, nil, empty-length, opening-runs}
 use Rattle.demand.specs.Events.{Call, callOpen, callAnswer, Event, asked, Stand, Happens, SameBox, boxLeft, isClosing, Step}
