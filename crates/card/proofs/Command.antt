@@ -1,27 +1,27 @@
 -- What a command leaves, whatever the card does.
 use Prim.Native.Nat.{ℕ, zero, suc, _+_, _*_, _/_, _%_, _^_, _<_, _≤_}
 use native.Mathlib.Omega.{arith}
-use mathlib.Core.Bool.{Bool, true, false, not, _||_, false≢true}
-use mathlib.Core.List.{List, [], _∷_}
+use mathlib.Core.Bool.{Bool, true, false, not, false≢true}
+use mathlib.Core.List.{List}
 use mathlib.Core.Logic.{_⊎_, inl, inr, ⊎-elim}
 use mathlib.Core.Option.{Option, some, none, Option·some-injective, Option·none-ne-some}
 use mathlib.Core.Path.{_≡_, refl, sym, _∙_, ap, ap₂, subst}
 use lib.Dec.{eqb}
 use borrow.Author.Tests.{eq-eqb, ne-eqb, eqb-true, eqb-false}
 use Rattle.fields.specs.Outcome.{pick}
-use Rattle.hcr.specs.Words.{bit, digit, same as alike, pendingIn, goWord, register, waitedOf, stallOf}
+use Rattle.hcr.specs.Words.{digit, same as alike, pendingIn, goWord, register, waitedOf}
 use Rattle.hcr.specs.declared.Post.{Post}
-use Rattle.pci.specs.Script.{Script, ret, ask, Bus, good, failed, read, write, stall, fence, Reply}
+use Rattle.pci.specs.Script.{Script, ask, Bus, good, failed, read, write}
 use Rattle.command.specs.Script.{STALLS, ending, onRead, onWrite, reading, timedOut, words, low, immediate, judged, verdict, poll, writeAll, start, fenced as fencing, command}
 use Rattle.command.specs.declared.Catas.{Catas}
 use Rattle.command.specs.declared.Catas.the-variants.{Known, Unknown}
-use Rattle.command.specs.declared.CmdResult.{CmdResult}
 use Rattle.command.specs.declared.CmdResult.the-variants as r
 use Rattle.command.specs.declared.CmdEnd.{CmdEnd}
-use Rattle.card.specs.Card.{Held, Mail, Command, Card, effect, result, finish, Settles, same, ends, goOf, tbitOf, statusOf, written, begin, put, store, take, fenced, Shows, Takes, Host, World, WorldStep, mailAt, IsMap, kind, StandsAt, Posts}
+use Rattle.card.specs.Card.{Held, Mail, Command, Card, effect, result, same, ends, goOf, tbitOf, statusOf, written, begin, put, store, take, fenced, Shows, Takes, Host, World, WorldStep, mailAt, IsMap, kind, StandsAt, Posts}
 use Rattle.card.specs.Safe.{Safe}
 use Rattle.card.proofs.Sequence.{safe-pick}
 use Rattle.card.specs.Known.{During, Fits, Going, Loose, Or, Out, Over, Quiet, Stable, Within, postedAs}
+use Rattle.card.proofs.Bools.{or-left, or-right}
 
 -- nothing is pending, and the registers hold f
 abbrev pub At : Held → (ℕ → ℕ) → Card → Type 1
@@ -88,14 +88,6 @@ loose-within p H Q c (inr (h, x, inr y)) =
     record { now = during-result p H h (c .held) (c .status) x (y .2); then = λ q e. absurd (none≢ (y .0) e) }
 
 -- THE POSTED-COMMAND LEMMA
-
-or-left : (a b : Bool) → (a || b) ≡ false → a ≡ false
-or-left true b e = e
-or-left false b e = refl
-
-or-right : (a b : Bool) → (a || b) ≡ false → b ≡ false
-or-right true b e = absurd (false≢true (sym e))
-or-right false b e = e
 
 alike-self : (a b : Bool) → a ≡ b → alike a b ≡ true
 alike-self true b e = sym e

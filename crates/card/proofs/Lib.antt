@@ -1,3 +1,4 @@
+pub mod Bools
 pub mod Sequence
 pub mod Command
 pub mod Still

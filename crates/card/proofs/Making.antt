@@ -1,37 +1,34 @@
 -- A buffer is made: allocated and mapped, or given back at once.
-use Prim.Native.Nat.{ℕ, _+_, _*_, _%_, _^_, _<_, _≤_}
-use mathlib.Core.Bool.{Bool, true, false, _&&_, false≢true}
+use Prim.Native.Nat.{ℕ, _+_, _*_, _%_, _^_, _≤_}
+use mathlib.Core.Bool.{Bool, true, false, _&&_}
 use mathlib.Core.List.{List, [], _∷_}
-use mathlib.Core.Logic.{_⊎_, inl, inr}
+use mathlib.Core.Logic.{inl, inr}
 use mathlib.Core.Option.{Option, some, none, Option·none-ne-some}
 use mathlib.Core.Path.{_≡_, refl, sym, _∙_, ap, subst}
 use lib.Dec.{eqb, leb}
 use borrow.Author.Tests.{eqb-true, eqb-false, leb-true}
 use Rattle.fields.specs.Outcome.{Outcome, value, refused, pick}
-use Rattle.dma.specs.Buffers.{pagesFor, isPage, endsWithin, acceptAt}
+use Rattle.dma.specs.Buffers.{pagesFor, isPage, endsWithin}
 use Rattle.dma.specs.declared.Buffer.{Buffer}
-use Rattle.pci.specs.Script.{Script, ret, ask, allocate, mapped, unmap, free, Bus, good, failed, Spot}
-use Rattle.buffer.specs.Buffer.{byOutcome, release, onMap, mapping, onAllocate, allocating, making}
+use Rattle.pci.specs.Script.{ret, allocate, mapped, Bus, good, failed, Spot}
+use Rattle.buffer.specs.Buffer.{byOutcome, release, onMap, onAllocate, allocating, making}
 use Rattle.buffer.specs.declared.Fault.{Fault}
 use Rattle.buffer.specs.declared.Fault.the-variants as f
 use Rattle.buffer.specs.declared.Made.{Made}
 use Rattle.buffer.specs.declared.Made.the-variants as m
-use Rattle.card.specs.Card.{Card, put, Hold, Host, Meets, On, InUse, orElse, second, mapAt, unmapAll, unmapIn, mapIn, handOut, handBack, MayUse, Clear, World, WorldStep}
+use Rattle.card.specs.Card.{Card, put, Hold, Host, Meets, On, orElse, second, mapAt, unmapAll, handOut, handBack, MayUse, World, WorldStep}
 use Rattle.card.specs.Safe.{Safe}
 use Rattle.card.specs.Owns.{Each, Pairwise, spotOf, holdOf, InBooks, Apart, Owns}
 use Rattle.card.proofs.Sequence.{safe-weaken, safe-pick}
 use Rattle.card.proofs.Owns.{put-same, put-other, each-map, each-both, owns-use}
 use Rattle.card.specs.Known.{Stable}
+use Rattle.card.proofs.Bools.{and-left, and-right}
 
 -- what a buffer that was made is: as many pages as asked for, at an address that 18 does not refuse
 pub record Sound (n : ℕ) (b : Buffer) : Type 0 where
   pub pages : b .pages ≡ n
   pub aligned : b .dev % 4096 ≡ 0
   pub fits : b .dev + n * 4096 ≤ 2 ^ 64
-
-both : (a b : Bool) → (a && b) ≡ true → (a ≡ true) × (b ≡ true)
-both true b e = (refl, e)
-both false b e = absurd (false≢true e)
 
 -- The card's facts I stand whatever a pending command does, and all that it may use is among the buffers that are there.
 module _ (i : List ℕ) (base : ℕ → Option Hold) (bs : List Buffer) (I : Card → Type 1) (stable : Stable I) (bound : (c : Card) → I c → (d : ℕ) → MayUse c d → InBooks bs d) (l : Host) where
@@ -166,8 +163,9 @@ module _ (i : List ℕ) (base : ℕ → Option Hold) (bs : List Buffer) (I : Car
           (λ e. (
             booked h n s (v .host) held1 new (eqb-true (s .bytes) (n * 4096) e),
             j1,
-            let p = both (eqb (s .address % 4096) 0) (leb (s .address + n * 4096) (2 ^ 64)) q in
-                record { pages = refl; aligned = eqb-true (s .address % 4096) 0 (p .0); fits = leb-true (s .address + n * 4096) (2 ^ 64) (p .1) },
+            let l = and-left (eqb (s .address % 4096) 0) (leb (s .address + n * 4096) (2 ^ 64)) q in
+                let r = and-right (eqb (s .address % 4096) 0) (leb (s .address + n * 4096) (2 ^ 64)) q in
+                record { pages = refl; aligned = eqb-true (s .address % 4096) 0 l; fits = leb-true (s .address + n * 4096) (2 ^ 64) r },
             boxed (eqb-true (s .bytes) (n * 4096) e),
           ))
           (λ e. safe-give-up h n f.Memory s v held1 new j1)

@@ -1,14 +1,14 @@
 -- Exactly once: along any safe script, a handle was given back as often as it was handed over, or once less while it is in hand.
-use Prim.Native.Nat.{ℕ, zero, suc, _+_}
+use Prim.Native.Nat.{ℕ, _+_}
 use native.Mathlib.Omega.{arith}
 use mathlib.Core.Bool.{Bool, true, false}
-use mathlib.Core.List.{List, [], _∷_}
+use mathlib.Core.List.{List, []}
 use mathlib.Core.Option.{Option, some, none}
 use mathlib.Core.Path.{_≡_, refl, sym, _∙_, ap, subst}
 use lib.Dec.{eqb}
 use borrow.Author.Tests.{eqb-true}
 use Rattle.fields.specs.Outcome.{pick}
-use Rattle.pci.specs.Script.{Ask, Reply, Bus, good, failed, Spot, configRead16, configRead32, configWrite16, configWrite32, read, write, attributes, resource, stall, allocate, mapped, unmap, free, fence}
+use Rattle.pci.specs.Script.{Ask, Reply, good, failed, Spot, configRead16, configRead32, configWrite16, configWrite32, read, write, attributes, resource, stall, allocate, mapped, unmap, free, fence}
 use Rattle.card.specs.Card.{put, Hold, Deal, Host, mapAt, unmapAll, unmapIn, mapIn, handOut, handBack, World, WorldStep, Allowed}
 use Rattle.card.specs.Owns.{outs, backs}
 

@@ -1,5 +1,5 @@
 -- Buffers: what the session has of the host in any order, and giving it back.
-use Prim.Native.Nat.{ℕ, _*_}
+use Prim.Native.Nat.{ℕ}
 use mathlib.Core.Bool.{Bool, true, false}
 use mathlib.Core.List.{List, [], _∷_, _++_}
 use mathlib.Core.Logic.{_⊎_, inl, inr}
@@ -9,9 +9,8 @@ use lib.Dec.{eqb}
 use borrow.Author.Tests.{eq-eqb, ne-eqb, eqb-true, eqb-false}
 use Rattle.fields.specs.Outcome.{pick}
 use Rattle.dma.specs.declared.Buffer.{Buffer}
-use Rattle.pci.specs.Script.{Spot}
 use Rattle.buffer.specs.Buffer.{freeing}
-use Rattle.card.specs.Card.{Card, put, Hold, Host, Meets, On, InUse, unmapAll, unmapIn, handBack, MayUse, Clear, World}
+use Rattle.card.specs.Card.{put, Hold, Host, Meets, InUse, unmapAll, unmapIn, handBack, World}
 use Rattle.card.specs.Safe.{Safe}
 use Rattle.card.specs.Owns.{Each, Pairwise, spotOf, holdOf, InBooks, Apart, Owns}
 use Rattle.card.proofs.Command.{quiet-stable}

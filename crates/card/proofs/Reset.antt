@@ -1,26 +1,25 @@
 -- What a reset leaves, whatever the card does.
 use Prim.Native.Nat.{ℕ, zero, suc, _+_, _*_, _/_, _%_, _<_, _^_}
 use native.Mathlib.Omega.{arith}
-use mathlib.Core.Bool.{Bool, true, false, false≢true}
+use mathlib.Core.Bool.{true, false, false≢true}
 use mathlib.Core.List.{List}
-use mathlib.Core.Logic.{_⊎_, inl, inr, ⊎-elim}
 use mathlib.Core.Option.{Option, some, none, Option·none-ne-some}
-use mathlib.Core.Path.{_≡_, refl, sym, _∙_, ap, subst}
+use mathlib.Core.Path.{_≡_, refl, sym, _∙_}
 use lib.Dec.{eqb}
-use lib.ListN.{set, getD, replicate}
+use lib.ListN.{set, replicate}
 use borrow.Author.Tests.{eq-eqb}
 use Rattle.fields.specs.Outcome.{pick}
-use Rattle.pci.specs.Script.{Script, ret, ask, Reply, Bus, good, failed, write, read, configRead16, configRead32, stall}
-use Rattle.reset.specs.Reset.{isGood, either, dwordAt, restore, restoreControl, isThere, vendor, afterwards, settle, written, semaphore, taking, linkControl, control, pointer, header, walk, capability, save, reset}
+use Rattle.pci.specs.Script.{Script, ret, ask, Bus, good, failed, write, read, configRead16, configRead32, stall}
+use Rattle.reset.specs.Reset.{isGood, either, dwordAt, restore, restoreControl, isThere, vendor, afterwards, settle, written, semaphore, taking, linkControl, control, pointer, walk, capability, save, reset}
 use Rattle.reset.specs.declared.ResetEnd.{ResetEnd}
 use Rattle.reset.specs.declared.ResetEnd.the-variants as e
 use Rattle.reset.specs.declared.Control.{Control}
 use Rattle.reset.specs.declared.Control.the-variants as c
-use Rattle.card.specs.Card.{Held, Card, holds, No, Settles, same, ends, Takes, take, Host, World, WorldStep}
+use Rattle.card.specs.Card.{Card, same, ends, Takes, take, Host, World, WorldStep}
 use Rattle.card.specs.Safe.{Safe}
 use Rattle.card.proofs.Sequence.{safe-weaken, safe-pick}
 use Rattle.card.proofs.Still.{Stills, stills-pick, safe-still}
-use Rattle.card.specs.Known.{Clean, Quiet, ResetPost, Stable}
+use Rattle.card.specs.Known.{Clean, ResetPost, Stable}
 
 pub clean-stable : Stable Clean
 clean-stable k d same x = x

@@ -4,8 +4,8 @@ use mathlib.Core.Bool.{Bool, true, false}
 use mathlib.Core.List.{List}
 use mathlib.Core.Path.{_≡_, refl}
 use Rattle.fields.specs.Outcome.{pick}
-use Rattle.pci.specs.Script.{Script, ret, ask, _>>=_, Reply}
-use Rattle.card.specs.Card.{World, WorldStep, Allowed}
+use Rattle.pci.specs.Script.{Script, ret, ask}
+use Rattle.card.specs.Card.{World}
 use Rattle.card.specs.Safe.{Safe}
 
 pub safe-weaken : {A : Type 0} (i : List ℕ) (t : Script A) (w : World) (M P : World → A → Type 1) → Safe i w t M → ((v : World) (a : A) → M v a → P v a) → Safe i w t P

@@ -1,11 +1,11 @@
 -- Scripts that change nothing: they read, stall, and touch the configuration space. The claim, the attributes, the search for a BAR, the first look at the status dword;
 -- and the parting, which writes the owner's register beside.
-use Prim.Native.Nat.{ℕ, zero, suc, _+_, _*_, _<_, _^_}
+use Prim.Native.Nat.{ℕ, zero, suc, _<_, _^_}
 use native.Mathlib.Omega.{arith}
 use mathlib.Core.Bool.{Bool, true, false, false≢true}
 use mathlib.Core.List.{List, [], _∷_}
-use mathlib.Core.Logic.{_⊎_, inl, inr, ⊎-elim}
-use mathlib.Core.Path.{_≡_, refl, sym, _∙_, subst}
+use mathlib.Core.Logic.{_⊎_, ⊎-elim}
+use mathlib.Core.Path.{_≡_, _∙_}
 use lib.Dec.{eqb}
 use lib.ListN.{set, replicate}
 use borrow.Author.Tests.{eq-eqb}
@@ -17,11 +17,10 @@ use Rattle.bars.specs.Steps.{settledOf}
 use Rattle.bars.specs.declared.Pick.{Pick}
 use Rattle.bars.specs.declared.Candidate.{Candidate}
 use Rattle.bars.specs.declared.BarRange.the-variants as b
-use Rattle.tasks.specs.Attributes.{orRefused, enabling, supporting, attributing}
+use Rattle.tasks.specs.Attributes.{orRefused, supporting, attributing}
 use Rattle.tasks.specs.declared.Attributes.{Attributes}
 use Rattle.tasks.specs.Claim.{onOwner, claiming}
 use Rattle.tasks.specs.Claim as k
-use Rattle.tasks.specs.declared.Claimed.{Claimed}
 use Rattle.tasks.specs.Parting.{onDisown, releasing, restoring}
 use Rattle.uar.specs.Uar as u
 use Rattle.uar.specs.declared.Found.{Found}

@@ -1,7 +1,7 @@
 -- The card rules of document 01, sentence by sentence: what the card and the host may do at each question, and what a session must keep to. Registers have their own
 -- numbers here, as scripts have them; a page is a number, an address divided by 4,096.
 use Prim.Native.Nat.{ℕ, zero, suc, _+_, _*_, _/_, _%_, _^_, _<_, _≤_}
-use mathlib.Core.Bool.{Bool, true, false}
+use mathlib.Core.Bool.{Bool, true}
 use mathlib.Core.List.{List, [], _∷_, _++_}
 use mathlib.Core.Logic.{_⊎_}
 use mathlib.Core.Option.{Option, some, none}

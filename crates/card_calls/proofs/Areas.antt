@@ -1,36 +1,32 @@
 -- An area of an opening: its buffer is made, enters the books, and is mapped mailbox after mailbox.
-use Prim.Native.Nat.{ℕ, zero, suc, _+_, _-_, _*_, _/_, _%_, _^_, _≤_, _<_, min, max}
+use Prim.Native.Nat.{ℕ, zero, suc, _+_, _-_, _*_, _/_, _%_, _^_, _≤_, _<_, max}
 use native.Mathlib.Omega.{arith}
 use native.Mathlib.Nat.{mod-eq-of-lt, max-le}
-use mathlib.Core.Bool.{Bool, true, false, false≢true}
+use mathlib.Core.Bool.{Bool, true, false}
 use mathlib.Core.List.{List, [], _∷_}
 use mathlib.Core.Logic.{_⊎_, inl, inr, ⊎-elim}
-use mathlib.Core.Option.{Option, some, none}
+use mathlib.Core.Option.{Option}
 use mathlib.Core.Path.{_≡_, refl, sym, _∙_, ap, subst}
 use lib.Dec.{eqb, leb, lit≤}
 use borrow.Author.Tests.{eq-eqb, eqb-true, eqb-false, leb-true}
 use lib.ListN.{length}
 use Rattle.fields.specs.Outcome.{Outcome, value, refused, valueOr, pick}
-use Rattle.dma.specs.Blocks.{virtOf}
 use Rattle.dma.specs.Buffers.{pagesFor}
 use Rattle.dma.specs.Pages.{blocksIn}
 use Rattle.dma.specs.PageList.{mailboxOf, firstBlocks, behind, filledAt}
 use Rattle.dma.specs.declared.Virt.{Virt}
 use Rattle.dma.specs.declared.Virt.the-variants as v
-use Rattle.dma.specs.declared.Block.{Block}
 use Rattle.dma.specs.declared.Buffer.{Buffer}
 use Rattle.dma.specs.declared.Cutter.{Cutter}
 use Rattle.pci.specs.Script.{Spot}
-use Rattle.command.specs.declared.CmdEnd.{CmdEnd}
 use Rattle.command.specs.declared.CmdResult.{CmdResult}
 use Rattle.command.specs.declared.CmdResult.the-variants as r
 use Rattle.buffer.specs.Buffer.{making}
 use Rattle.buffer.specs.declared.Made.{Made}
 use Rattle.buffer.specs.declared.Made.the-variants as m
-use Rattle.session.specs.Session.{wired, after, withInOf, bytesIn, icmAt, bufferOf}
+use Rattle.session.specs.Session.{wired, after, withInOf, bytesIn}
 use Rattle.session.specs.Course.{Course, Here, sends, Rest, atRest}
 use Rattle.session.specs.declared.Hold.the-variants as o
-use Rattle.session.specs.declared.Icm.{Icm}
 use Rattle.session.specs.declared.Wire.{Wire}
 use Rattle.session.specs.declared.Books.{Books}
 use Rattle.session.specs.declared.Info.{Info}
@@ -40,26 +36,26 @@ use Rattle.session.specs.declared.Stage.the-variants as g
 use Rattle.session.specs.declared.Failure.{Failure}
 use Rattle.session.specs.declared.Closing.{Closing}
 use Rattle.session.specs.declared.Closing.the-variants as c
-use Rattle.closing.specs.Closing.{isDone, lendsFrom}
+use Rattle.closing.specs.Closing.{lendsFrom}
 use Rattle.opening.specs.Values.{failureOf, faultOf, opFor, enters, cutterFor, rangeAt, withFa, withAux}
-use Rattle.opening.specs.Opening.{fails, brokenBy, onGood, holds, onMade, mapping, areaFor}
+use Rattle.opening.specs.Opening.{fails, onGood, holds, onMade, mapping, areaFor}
 use Rattle.opening.proofs.Cutting.{behind-less}
-use Rattle.card.specs.Card.{Held, Command, Card, Hold, Host, Meets, orElse, second, MayUse, World, mailAt}
+use Rattle.card.specs.Card.{Held, Card, Hold, Host, Meets, orElse, second, MayUse, World, mailAt}
 use Rattle.card.specs.Owns.{Owns, InBooks, spotOf}
 use Rattle.card.proofs.Command.{quiet-stable, quiet-within}
 use Rattle.card.proofs.View.{quiet-uses}
-use Rattle.card.proofs.Owns.{Perm, owns-perm}
+use Rattle.card.proofs.Owns.{owns-perm}
 use Rattle.card.proofs.Making.{Sound, MadePost, safe-making}
 use Rattle.card_calls.specs.SafeCourse.{SafeCourse}
-use Rattle.card_calls.specs.Ranges.{OnRange, InRanges}
+use Rattle.card_calls.specs.Ranges.{OnRange}
 use Rattle.card_calls.proofs.Courses.{Fair, safe-task, safe-sends, course-pick}
-use Rattle.card_calls.proofs.Blocks.{Cutting, OnRun, cutting, behind-cutting, range-blocks, length-mailbox, first-few}
+use Rattle.card_calls.proofs.Blocks.{Cutting, OnRun, cutting, behind-cutting, range-blocks, length-mailbox}
 use Rattle.card_calls.proofs.Books.{knows-owed, partly-owed, partly-done, partly-step, knows-bound, fa-perm, aux-perm, entryOf, ranged, range-enters, ranged-entries, in-old, in-new, in-either, range-perm}
 use Rattle.card_calls.proofs.Commands.{fits-in, safe-fails, safe-failed}
-use Rattle.card.specs.Known.{After, Empty, Fits, Out, Quiet, Within, postedAs}
+use Rattle.card.specs.Known.{Empty, Fits, Out, Quiet, postedAs}
 use Rattle.card_calls.specs.Ranges.{AnyIn}
 use Rattle.card_calls.specs.Owed.{OwedBy}
-use Rattle.card_calls.specs.Holding.{Ahead, Boxes, Calm, Entries, Knows, Missing, OnSlot, Partly, Ready}
+use Rattle.card_calls.specs.Holding.{Boxes, Calm, Entries, Knows, OnSlot, Partly, Ready}
 
 -- PAGES: fewer than 2^52, and not one more than the bytes want
 pub pages-few : (bytes n : ℕ) → pagesFor bytes ≡ value n → (n < 2 ^ 52) × (n ≤ bytes / 4096 + 1)
@@ -79,7 +75,7 @@ pages-few bytes n e = by-bound (leb bytes (2 ^ 64 - 4096)) refl
         IsValue (value x) = Unit {0}
         IsValue (refused i vs) = ⊥
 
-filled-is : (k : Cutter) (s : List ℕ) → length s ≡ 4096 → filledAt 63 256 k s ≡ mailboxOf (firstBlocks 63 256 k)
+pub filled-is : (k : Cutter) (s : List ℕ) → length s ≡ 4096 → filledAt 63 256 k s ≡ mailboxOf (firstBlocks 63 256 k)
 filled-is k s l = ap (λ (t : Bool). pick t (mailboxOf (firstBlocks 63 256 k)) s) (eq-eqb (length s) 4096 l)
 
 filled-fair : (k : Cutter) (h : Here) → Fair h → Fair (holds (filledAt 63 256 k (h .inbox)) h)

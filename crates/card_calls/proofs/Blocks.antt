@@ -13,7 +13,7 @@ use Rattle.fields.specs.Fields.{be}
 use Rattle.dma.specs.Blocks.{virtOf, onwardOf, blockAt, blocksOf}
 use Rattle.dma.specs.Pages.{table, blocksIn, Within}
 use Rattle.dma.specs.Pages as g
-use Rattle.dma.specs.PageList.{mailboxOf, blockIn, listIn, listAt, entryAt, Carried, firstBlocks, behind}
+use Rattle.dma.specs.PageList.{mailboxOf, blockIn, listAt, entryAt, Carried, firstBlocks, behind}
 use Rattle.dma.specs.declared.Virt.{Virt}
 use Rattle.dma.specs.declared.Virt.the-variants as v
 use Rattle.dma.specs.declared.Block.{Block}

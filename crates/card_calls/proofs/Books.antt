@@ -1,11 +1,11 @@
 -- What the books say while an opening runs: the buffers, in the order in which a closing frees them, and what the card holds of them.
-use Prim.Native.Nat.{ℕ, zero, suc, _+_, _-_, _*_, _/_, _%_, _^_, _≤_, _<_}
+use Prim.Native.Nat.{ℕ, zero, suc, _+_, _-_, _%_, _^_, _≤_, _<_}
 use native.Mathlib.Omega.{arith}
 use native.Mathlib.Nat.{mod-eq-of-lt}
 use mathlib.Core.Bool.{Bool, true, false}
 use mathlib.Core.List.{List, [], _∷_, _++_, append-assoc}
 use mathlib.Core.Logic.{_⊎_, inl, inr, ⊎-elim, _↔_}
-use mathlib.Core.Option.{Option, some, none}
+use mathlib.Core.Option.{none}
 use mathlib.Core.Path.{_≡_, refl, sym, _∙_, ap, ap₂, subst}
 use lib.Dec.{eqb, ltb}
 use borrow.Author.Tests.{lt-ltb, eqb-true, eqb-false}
@@ -20,20 +20,19 @@ use Rattle.session.specs.Session.{books, listing, icmAt, bufferAt, bufferOf, no
 use Rattle.session.specs.declared.Hold.{Hold as Slot}
 use Rattle.session.specs.declared.Hold.the-variants as o
 use Rattle.session.specs.declared.Icm.{Icm}
-use Rattle.session.specs.declared.Lists.{Lists}
 use Rattle.session.specs.declared.Books.{Books}
 use Rattle.session.specs.declared.Info.{Info}
 use Rattle.session.specs.declared.Area.{Area}
 use Rattle.session.specs.declared.Area.the-variants as a
 use Rattle.closing.specs.Closing.{inHold, isHeld, boxes, areas, rangesFrom, lendsFrom}
-use Rattle.opening.specs.Values.{opFor, withFa, withAux, withRange, enters, appended, rangeAt}
-use Rattle.card.specs.Card.{Held, Command, Card, Blocks, Named, Kind, kind, does, effect, Holds, Meets, Host}
+use Rattle.opening.specs.Values.{opFor, withFa, withAux, enters, rangeAt}
+use Rattle.card.specs.Card.{Held, Command, Blocks, kind, does, effect, Holds, Meets}
 use Rattle.card.specs.Owns.{InBooks, spotOf}
-use Rattle.card.proofs.Owns.{Perm, stop, keep, swap, join, perm-self, In, in-left, in-right, in-books}
+use Rattle.card.proofs.Owns.{Perm, keep, swap, join, perm-self, In, in-left, in-right, in-books}
 use Rattle.card_calls.specs.Ranges.{OnRange, InRanges}
 use Rattle.card_calls.proofs.Blocks.{Cutting, carries, first-few, first-carried, any-split, none-left}
 use Rattle.card.specs.Known.{After}
-use Rattle.card_calls.specs.Owed.{Dropped, Owed, OwedBy}
+use Rattle.card_calls.specs.Owed.{Dropped, OwedBy}
 use Rattle.card_calls.specs.Ranges.{AnyIn}
 use Rattle.card_calls.specs.Holding.{Ahead, Entries, Knows, Missing, OnSlot, Partly, Posted}
 

@@ -1,9 +1,9 @@
 -- The course of a closing keeps to the card rules: by commands or by a reset, then all is given back, or kept if the reset failed.
 use Prim.Native.Nat.{ℕ, zero, suc, _+_, _/_, _%_, _^_, _≤_, _<_}
 use native.Mathlib.Omega.{arith}
-use mathlib.Core.Bool.{Bool, true, false, _||_, false≢true}
+use mathlib.Core.Bool.{Bool, true, false, false≢true}
 use mathlib.Core.List.{List, [], _∷_}
-use mathlib.Core.Logic.{_⊎_, inl, inr, ⊎-elim}
+use mathlib.Core.Logic.{_⊎_, ⊎-elim}
 use mathlib.Core.Option.{Option, none}
 use mathlib.Core.Path.{_≡_, refl, sym, _∙_, ap, subst}
 use lib.Dec.{eqb, ltb}
@@ -12,7 +12,6 @@ use Rattle.fields.specs.Outcome.{pick}
 use Rattle.dma.specs.declared.Buffer.{Buffer}
 use Rattle.hcr.specs.Words.{isReserved, isIn, reservedOps}
 use Rattle.hcr.specs.declared.Post.{Post}
-use Rattle.command.specs.declared.CmdEnd.{CmdEnd}
 use Rattle.command.specs.declared.CmdResult.{CmdResult}
 use Rattle.command.specs.declared.CmdResult.the-variants as r
 use Rattle.reset.specs.Reset.{reset, isGood}
@@ -29,8 +28,8 @@ use Rattle.session.specs.declared.Stage.the-variants as g
 use Rattle.session.specs.declared.Failure.{Failure}
 use Rattle.session.specs.declared.Closing.{Closing}
 use Rattle.session.specs.declared.Closing.the-variants as c
-use Rattle.closing.specs.Closing.{isDone, isHeld, lendsFrom, emptied, undoPost, popped, UNDOS, restored, parted, freed, giving, resetting, stopped, onward, unmapFa, unmapAux, unmapping, closeHca, undoing, stopping}
-use Rattle.card.specs.Card.{Held, Command, Card, Mail, Kind, Other, kind, does, effect, Holds, IsMap, StandsAt, Hold, Host, World, mailAt, store}
+use Rattle.closing.specs.Closing.{isHeld, lendsFrom, emptied, undoPost, popped, UNDOS, restored, parted, freed, giving, resetting, stopped, onward, unmapFa, unmapAux, unmapping, closeHca, undoing, stopping}
+use Rattle.card.specs.Card.{Held, Command, Card, Mail, Other, kind, does, effect, IsMap, Hold, Host, World, mailAt, store}
 use Rattle.card.specs.Owns.{Owns}
 use Rattle.card.proofs.Command.{quiet-stable, quiet-within}
 use Rattle.card.proofs.Still.{safe-still, restoring-still, safe-releasing}
@@ -39,8 +38,9 @@ use Rattle.card.proofs.View.{nothing-empty, other-effect}
 use Rattle.card.proofs.Owns.{safe-freeing}
 use Rattle.card_calls.specs.SafeCourse.{Typed, SafeCourse}
 use Rattle.card_calls.proofs.Courses.{Fair, safe-task, safe-sends, course-pick}
-use Rattle.card.specs.Known.{After, Clean, During, Empty, Fits, Loose, Or, Out, Quiet, ResetPost, Stable, Within, postedAs}
+use Rattle.card.specs.Known.{After, Clean, Empty, Fits, Out, Quiet, ResetPost, Stable, Within, postedAs}
 use Rattle.card_calls.specs.Owed.{Dropped, Owed, OwedBy, Stoppable}
+use Rattle.card.proofs.Bools.{or-left, or-right}
 
 false≢ : {A : Type 0} → _≡_ {A = Bool} false true → A
 false≢ e = absurd (false≢true e)
@@ -93,14 +93,6 @@ module _ (icms : List Icm) (p : Command) where
           below j a b = omega (arith, a, b)
 
 -- AN UNDO RECORD is a command of no effect: its opcode is none that bring-up or closing sends
-or-left : (a b : Bool) → (a || b) ≡ false → a ≡ false
-or-left true b e = e
-or-left false b e = refl
-
-or-right : (a b : Bool) → (a || b) ≡ false → b ≡ false
-or-right true b e = absurd (false≢true (sym e))
-or-right false b e = e
-
 abbrev Outside : ℕ → List ℕ → Type 0
 Outside n [] = Unit {0}
 Outside n (x ∷ xs) = (eqb n x ≡ false) × Outside n xs
@@ -140,7 +132,7 @@ clean-differs e = subst (λ (x : Closing). IsClean x) e tt
     IsClean c.Reset = ⊥
     IsClean c.Kept = ⊥
 
-reset-differs : c.Reset ≡ c.Kept → ⊥
+pub reset-differs : c.Reset ≡ c.Kept → ⊥
 reset-differs e = subst (λ (x : Closing). IsReset x) e tt
   where
     IsReset : Closing → Type 0

@@ -1,13 +1,12 @@
 -- The commands of an opening: what is known before and after each, and that a failure leads into a closing that keeps to the card rules.
-use Prim.Native.Nat.{ℕ, zero, suc, _+_, _*_, _/_, _%_, _^_, _≤_, _<_}
+use Prim.Native.Nat.{ℕ, _^_, _<_}
 use native.Mathlib.Omega.{arith}
-use mathlib.Core.Bool.{Bool, true, false, not, false≢true}
-use mathlib.Core.List.{List, [], _∷_}
+use mathlib.Core.Bool.{true, false, false≢true}
+use mathlib.Core.List.{List, []}
 use mathlib.Core.Logic.{_⊎_, inl, inr, ⊎-elim}
-use mathlib.Core.Option.{Option, some, none}
+use mathlib.Core.Option.{Option}
 use mathlib.Core.Path.{_≡_, refl, sym, _∙_, ap, subst}
 use Rattle.fields.specs.Outcome.{Outcome, value, refused, pick}
-use Rattle.dma.specs.declared.Buffer.{Buffer}
 use Rattle.hcr.specs.declared.Post.{Post}
 use Rattle.pci.specs.declared.Refusal.{Refusal}
 use Rattle.command.specs.declared.CmdEnd.{CmdEnd}
@@ -15,8 +14,6 @@ use Rattle.command.specs.declared.CmdResult.{CmdResult}
 use Rattle.command.specs.declared.CmdResult.the-variants as r
 use Rattle.session.specs.Session.{wired, after, endSeen, broken, deviceOf, immOf, withInOf, withOutOf}
 use Rattle.session.specs.Course.{Course, Here, sends, Rest, atRest}
-use Rattle.session.specs.declared.Hold.{Hold as Slot}
-use Rattle.session.specs.declared.Hold.the-variants as o
 use Rattle.session.specs.declared.Wire.{Wire}
 use Rattle.session.specs.declared.Books.{Books}
 use Rattle.session.specs.declared.Info.{Info}
@@ -26,17 +23,17 @@ use Rattle.session.specs.declared.Failure.the-variants as f
 use Rattle.session.specs.declared.Closing.{Closing}
 use Rattle.session.specs.declared.Closing.the-variants as c
 use Rattle.closing.specs.Closing.{isDone, lendsFrom, emptied, stopping}
-use Rattle.opening.specs.Values.{needsReset, failureOf, refusalOf}
-use Rattle.opening.specs.Opening.{fails, brokenBy, onGood, onValue}
+use Rattle.opening.specs.Values.{refusalOf}
+use Rattle.opening.specs.Opening.{fails, brokenBy, onValue}
 use Rattle.card.specs.Card.{Held, Command, Card, Mail, Other, kind, IsMap, StandsAt, Hold, Host, World, mailAt}
-use Rattle.card.specs.Owns.{Owns, spotOf}
+use Rattle.card.specs.Owns.{Owns}
 use Rattle.card.proofs.Command.{quiet-within, within-more, loose-within}
 use Rattle.card.proofs.View.{other-effect}
 use Rattle.card_calls.proofs.Courses.{Fair, safe-sends}
 use Rattle.card_calls.proofs.Closing.{safe-stopping}
 use Rattle.card_calls.proofs.Books.{knows-owed}
 use Rattle.card_calls.specs.SafeCourse.{SafeCourse}
-use Rattle.card.specs.Known.{After, During, Empty, Fits, Loose, Or, Out, Quiet, Within, postedAs}
+use Rattle.card.specs.Known.{During, Empty, Fits, Loose, Or, Out, Quiet, Within, postedAs}
 use Rattle.card_calls.specs.Owed.{OwedBy}
 use Rattle.card_calls.specs.Holding.{Boxes, Calm, Entries, Knows, Ready}
 

@@ -2,20 +2,20 @@
 use Prim.Native.Nat.{ℕ, zero, suc, _<_}
 use mathlib.Core.Bool.{Bool, true, false}
 use mathlib.Core.List.{List}
-use mathlib.Core.Path.{_≡_, refl, sym, _∙_, ap, subst}
+use mathlib.Core.Path.{_≡_, refl, sym, _∙_, subst}
 use native.Mathlib.Omega.{arith}
 use lib.ListN.{length, getD, replicate, length-replicate}
 use Rattle.fields.specs.Outcome.{pick}
-use Rattle.pci.specs.Script.{Script, Ask, Reply, Bus, good, failed, configRead16, configRead32, configWrite16, configWrite32, read, write, attributes, resource, stall, allocate, mapped, unmap, free, fence}
+use Rattle.pci.specs.Script.{Script, Ask, Reply, good, failed, configRead16, configRead32, configWrite16, configWrite32, read, write, attributes, resource, stall, allocate, mapped, unmap, free, fence}
 use Rattle.pci.specs.Script as s
 use Rattle.hcr.specs.declared.Post.{Post}
 use Rattle.command.specs.Script.{command}
 use Rattle.command.specs.declared.CmdResult.{CmdResult}
 use Rattle.command.specs.declared.CmdEnd.{CmdEnd}
 use Rattle.session.specs.Session.{wired, after, catasFor}
-use Rattle.session.specs.Course.{Course, ret, ask, Here, here, Lent, left, lent, blank, Box, neither, inbox, outbox, zeroed, onAllocated, touched, run, task, sends}
+use Rattle.session.specs.Course.{Course, ret, ask, Here, Lent, lent, Box, neither, inbox, outbox, zeroed, touched, run, task, sends}
 use Rattle.session.specs.declared.Books.{Books}
-use Rattle.card.specs.Card.{Held, Command, Card, Host, World, WorldStep, mailAt}
+use Rattle.card.specs.Card.{Held, Command, World, mailAt}
 use Rattle.card.specs.Safe.{Safe}
 use Rattle.card.proofs.Command.{CmdPost, safe-command}
 use Rattle.card_calls.specs.SafeCourse.{Typed, Lendable, SafeCourse}

@@ -1,16 +1,15 @@
 -- The course of an opening keeps to the card rules, on any card and any host: it ends open, with the card's map exactly the ranges of the layout on their buffers; or
 -- all is given back; or all is kept.
-use Prim.Native.Nat.{ℕ, zero, suc, _+_, _-_, _*_, _/_, _%_, _^_, _≤_, _<_}
+use Prim.Native.Nat.{ℕ, zero, suc, _+_, _-_, _*_, _^_, _<_}
 use native.Mathlib.Omega.{arith}
 use mathlib.Core.Bool.{Bool, true, false, not, false≢true}
 use mathlib.Core.List.{List, [], _∷_}
-use mathlib.Core.Logic.{_⊎_, inl, inr, ⊎-elim}
 use mathlib.Core.Option.{Option, some, none}
 use mathlib.Core.Path.{_≡_, refl, sym, _∙_, ap, subst}
 use lib.Dec.{eqb}
 use borrow.Author.Tests.{eq-eqb}
 use lib.ListN.{length, getD, replicate, length-replicate}
-use Rattle.fields.specs.Outcome.{Outcome, value, refused, valueOr, pick}
+use Rattle.fields.specs.Outcome.{value, valueOr, pick}
 use Rattle.fields.specs.Fields.{putAt}
 use Rattle.fields.specs.declared.Order.the-variants.{Big}
 use Rattle.fields.proofs.Laws.{Bytes, length-put}
@@ -24,7 +23,6 @@ use Rattle.reply.specs.Capability.{capabilityOf, devCapOf}
 use Rattle.reply.specs.Replies.{queryFwOf, fwHeld, queryPortOf, queryFuncOf}
 use Rattle.reply.proofs.Bounded.{accepted-is}
 use Rattle.reply.specs.declared.DevCap.{DevCap}
-use Rattle.reply.specs.declared.FwInfo.{FwInfo}
 use Rattle.reply.specs.declared.PortInfo.{PortInfo}
 use Rattle.layout.specs.Layout.{noLayout}
 use Rattle.layout.specs.Counts.{profileOf}
@@ -53,10 +51,9 @@ use Rattle.uar.specs.Uar.{finding}
 use Rattle.uar.specs.declared.Found.{Found}
 use Rattle.uar.specs.declared.Found.the-variants as u
 use Rattle.work.specs.Work.{looking}
-use Rattle.session.specs.Session.{noBooks, noInfo, wired, after, endSeen, icmAt, immOf, withInOf, withOutOf}
-use Rattle.session.specs.Course.{Course, Here, left, Box, inbox, outbox, zeroed, run, sends, Rest, atRest}
+use Rattle.session.specs.Session.{noBooks, noInfo, wired, after, endSeen, immOf, withInOf, withOutOf}
+use Rattle.session.specs.Course.{Here, inbox, outbox, zeroed, run, Rest, atRest}
 use Rattle.session.specs.declared.Hold.the-variants as o
-use Rattle.session.specs.declared.Icm.{Icm}
 use Rattle.session.specs.declared.Wire.{Wire}
 use Rattle.session.specs.declared.Books.{Books}
 use Rattle.session.specs.declared.Info.{Info}
@@ -66,10 +63,10 @@ use Rattle.session.specs.declared.Failure.{Failure}
 use Rattle.session.specs.declared.Failure.the-variants as f
 use Rattle.session.specs.declared.Closing.{Closing}
 use Rattle.session.specs.declared.Closing.the-variants as c
-use Rattle.closing.specs.Closing.{isDone, lendsFrom, emptied, parted, restored, inHold}
+use Rattle.closing.specs.Closing.{lendsFrom, emptied, parted, restored}
 use Rattle.opening.specs.Values.{needsReset, failureOf, fwFailureOf, faultOf, immediateOf, layoutIn, rangeAt, noRange, withToggle, withCatas, withOriginal, withInbox, withOutbox, withFa, withAux, nowStarted, withUar, withRevision, withCap, withFunc, withPort}
-use Rattle.opening.specs.Opening.{fails, failsBy, brokenBy, onGood, onValue, holds, onMade, opened, queryAdapter, queryFunc, initHca, areaFor, mapIcm, setIcmSize, layingOut, queryPorts, portsOf, queryDevCap, modStat, runFw, fwReply, queryFw, look, giveInbox, makeOutbox, makeInbox, onFound, findUar, firstReset, onClaimed, claim, onEnabled, enable, opening}
-use Rattle.card.specs.Card.{Held, Command, Card, No, Hold, Host, orElse, second, MayUse, World, store, mailAt}
+use Rattle.opening.specs.Opening.{failsBy, onValue, holds, onMade, opened, queryAdapter, queryFunc, initHca, areaFor, mapIcm, setIcmSize, layingOut, queryPorts, portsOf, queryDevCap, modStat, runFw, fwReply, queryFw, look, giveInbox, makeOutbox, makeInbox, onFound, findUar, firstReset, onClaimed, claim, onEnabled, enable, opening}
+use Rattle.card.specs.Card.{Held, Card, Hold, Host, orElse, second, MayUse, World, mailAt}
 use Rattle.card.specs.Owns.{Owns, InBooks, spotOf}
 use Rattle.card.proofs.Command.{quiet-stable, quiet-within}
 use Rattle.card.proofs.Still.{safe-still, attributing-still, claiming-still, finding-still, looking-still}
@@ -78,14 +75,14 @@ use Rattle.card.proofs.View.{nothing-empty, quiet-uses}
 use Rattle.card.proofs.Owns.{swap, owns-perm}
 use Rattle.card.proofs.Making.{Sound, MadePost, safe-making}
 use Rattle.card_calls.specs.SafeCourse.{SafeCourse}
-use Rattle.card_calls.specs.Ranges.{AsLaid, InRanges}
+use Rattle.card_calls.specs.Ranges.{AsLaid}
 use Rattle.card_calls.proofs.Courses.{Fair, fair-zeroed, safe-run, safe-task, course-pick}
 use Rattle.card_calls.proofs.Closing.{clean-differs, safe-restored, safe-parted, safe-all-freed}
 use Rattle.card_calls.proofs.Books.{knows-owed, ranged, entryOf, each-range}
-use Rattle.card_calls.proofs.Commands.{fits-in, fits-out, fits-imm, safe-failed, ready-fails, ready-value, safe-other, safe-good}
+use Rattle.card_calls.proofs.Commands.{fits-in, fits-out, fits-imm, safe-failed, ready-value, safe-other, safe-good}
 use Rattle.card_calls.proofs.Areas.{Placed, safe-area, enters-fa, enters-aux, enters-range}
-use Rattle.card.specs.Known.{Clean, Empty, Fits, Nothing, Out, Quiet, ResetPost, Within, postedAs}
-use Rattle.card_calls.specs.Holding.{Boxes, Calm, Entries, Knows, Opened, Ready}
+use Rattle.card.specs.Known.{Clean, Empty, Nothing, Out, Quiet, ResetPost, Within, postedAs}
+use Rattle.card_calls.specs.Holding.{Calm, Entries, Knows, Opened, Ready}
 
 -- THE LAYOUT's ranges
 pub record Laid (n : Info) : Type 0 where
@@ -128,7 +125,7 @@ port-capped : (n : Info) (p : ℕ) (i : PortInfo) → Capped n → Capped (withP
 port-capped n p i (s, bar, bs, e) = (s, bar, bs, e ∙ ap value (sym (port-cap (eqb p 1) _ _ (n .cap) refl refl)))
 
 -- MAILBOXES of fields
-length-all : (s : List ℕ) (fs : List Field) → length (putAll s fs) ≡ length s
+pub length-all : (s : List ℕ) (fs : List Field) → length (putAll s fs) ≡ length s
 unfolding putAll
 length-all s [] = refl
 length-all s (x ∷ fs) = length-all (putAt Big s (x .offset) (x .width) (x .value)) fs ∙ length-put Big s (x .offset) (x .width) (x .value)

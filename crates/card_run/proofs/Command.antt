@@ -2,22 +2,22 @@
 use Prim.Native.Nat.{ℕ, zero, suc, _+_, _*_, _/_, _%_, _^_, _<_}
 use native.Mathlib.Omega.{arith}
 use mathlib.Core.Bool.{Bool, true, false, not, false≢true}
-use mathlib.Core.List.{List, [], _∷_}
+use mathlib.Core.List.{List, []}
 use mathlib.Core.Logic.{_⊎_, inl, inr}
-use mathlib.Core.Option.{Option, some, none, Option·some-injective, Option·none-ne-some}
+use mathlib.Core.Option.{some, none, Option·some-injective, Option·none-ne-some}
 use mathlib.Core.Path.{_≡_, refl, sym, _∙_, ap, subst}
 use lib.Dec.{eqb}
 use borrow.Author.Tests.{eq-eqb}
 use Rattle.fields.specs.Outcome.{pick}
 use Rattle.hcr.specs.Words.{digit, pendingIn, statusIn, goWord, waitedOf}
 use Rattle.hcr.specs.declared.Post.{Post}
-use Rattle.pci.specs.Script.{Script, ret, ask, Bus, good, read, write, fence}
+use Rattle.pci.specs.Script.{good, read}
 use Rattle.pci.specs.declared.Answer.the-variants as an
-use Rattle.command.specs.Script.{STALLS, ending, words, low, immediate, judged, verdict, poll, writeAll, start, fenced as fencing, command}
+use Rattle.command.specs.Script.{STALLS, low, immediate, judged, verdict, poll, writeAll, start, fenced as fencing, command}
 use Rattle.command.specs.declared.Catas.{Catas}
 use Rattle.command.specs.declared.CmdResult.the-variants as r
 use Rattle.command.specs.declared.CmdEnd.{CmdEnd}
-use Rattle.card.specs.Card.{Card, Command, finish, Settles, same, ends, goOf, tbitOf, statusOf, written, begin, store, take, fenced, Shows, Host, World, mailAt}
+use Rattle.card.specs.Card.{Card, Command, finish, Settles, same, ends, tbitOf, statusOf, written, begin, store, fenced, Shows, Host, World, mailAt}
 use Rattle.card.proofs.Command.{go-of, tbit-of}
 use Rattle.card_run.specs.Can.{Can}
 use Rattle.card_run.proofs.Steps.{says-read, can-true, can-false}

@@ -1,19 +1,18 @@
 -- A whole opening can end well: on a card that holds nothing and a host that has handed out nothing.
 use Prim.Native.Nat.{ℕ, zero, suc, _+_, _-_, _*_, _/_, _%_, _^_, _≤_, _<_, max}
 use native.Mathlib.Omega.{arith}
-use mathlib.Core.Bool.{Bool, true, false, not, false≢true}
+use mathlib.Core.Bool.{Bool, true, false, false≢true}
 use mathlib.Core.List.{List, [], _∷_, _++_}
-use mathlib.Core.Logic.{_⊎_, inl, inr}
-use mathlib.Core.Option.{Option, some, none, Option·none-ne-some}
+use mathlib.Core.Logic.{inl}
+use mathlib.Core.Option.{some, none, Option·none-ne-some}
 use mathlib.Core.Path.{_≡_, refl, sym, _∙_, ap, subst}
-use lib.Dec.{eqb, ltb, leb, lit≤}
+use lib.Dec.{eqb, ltb, leb}
 use borrow.Author.Tests.{eq-eqb, le-leb, ltb-true}
 use lib.ListN.{length, getD, set, replicate, length-replicate}
 use Rattle.fields.specs.Outcome.{Outcome, value, refused, pick}
 use Rattle.fields.specs.Fields.{digits, putDigits}
 use Rattle.fields.proofs.Laws.{Bytes}
 use Rattle.bars.specs.declared.Size.the-variants as z
-use Rattle.bars.specs.declared.Pick.{Pick}
 use Rattle.bench.specs.Bench.{inputL}
 use Rattle.dma.specs.Buffers.{pagesFor}
 use Rattle.dma.specs.PageList.{firstBlocks, behind, filledAt}
@@ -21,31 +20,26 @@ use Rattle.dma.specs.declared.Buffer.{Buffer}
 use Rattle.dma.specs.declared.Cutter.{Cutter}
 use Rattle.hcr.specs.declared.Post.{Post}
 use Rattle.hcr.specs.Words.{firstToggle}
-use Rattle.pci.specs.Script.{Script, Ask, Reply}
+use Rattle.pci.specs.Script.{Script}
 use Rattle.pci.specs.Script as s
 use Rattle.reply.specs.Capability.{capabilityOf, devCapOf, readInto}
 use Rattle.reply.specs.Replies.{queryFwOf, fwOf, fwHeld}
 use Rattle.reply.specs.declared.DevCap.{DevCap}
 use Rattle.layout.specs.Layout.{firstPow, tablesFrom, spotOf, sortInto, placeFrom, totalOf, firstBad, tableIn, layOut}
 use Rattle.layout.specs.Counts.{profileOf, countsOf}
-use Rattle.layout.specs.declared.Layout.{Layout}
 use Rattle.init.specs.Init.{filledBy, fieldsOf, initOf, modStatCfg}
 use Rattle.command.specs.Script.{command}
-use Rattle.command.specs.declared.CmdEnd.{CmdEnd}
 use Rattle.command.specs.declared.CmdResult.{CmdResult}
 use Rattle.command.specs.declared.CmdResult.the-variants as r
 use Rattle.reset.specs.Reset.{reset, isGood}
 use Rattle.reset.specs.declared.ResetEnd.the-variants as re
-use Rattle.buffer.specs.Buffer.{byOutcome, allocating, making}
-use Rattle.buffer.specs.declared.Fault.the-variants as fa
+use Rattle.buffer.specs.Buffer.{making}
 use Rattle.buffer.specs.declared.Made.{Made}
-use Rattle.buffer.specs.declared.Made.the-variants as m
 use Rattle.tasks.specs.Attributes.{attributing}
 use Rattle.tasks.specs.declared.Attributes.the-variants as t
 use Rattle.tasks.specs.Claim.{claiming}
 use Rattle.tasks.specs.declared.Claimed.the-variants as l
 use Rattle.uar.specs.Uar.{finding}
-use Rattle.uar.specs.declared.Found.the-variants as fo
 use Rattle.work.specs.Work.{looking}
 use Rattle.session.specs.Session.{noBooks, noInfo, wired, after, catasFor, immOf, withInOf, withOutOf}
 use Rattle.session.specs.Course.{Course, ret, ask, Here, here, Lent, left, lent, Box, neither, inbox, outbox, zeroed, touched, run, task, sends, Rest}
@@ -58,13 +52,12 @@ use Rattle.session.specs.declared.Stage.the-variants as g
 use Rattle.session.specs.declared.Failure.the-variants as f
 use Rattle.session.specs.declared.Closing.the-variants as c
 use Rattle.closing.specs.Closing.{isDone, parted}
-use Rattle.opening.specs.Values.{needsReset, failureOf, faultOf, fwFailureOf, immediateOf, layoutIn, rangeAt, withToggle, withCatas, withInbox, withOutbox, withOriginal, nowStarted, opFor, enters, cutterFor, withUar, withRevision, withCap}
+use Rattle.opening.specs.Values.{needsReset, faultOf, fwFailureOf, immediateOf, layoutIn, rangeAt, withToggle, withCatas, withInbox, withOutbox, withOriginal, nowStarted, opFor, enters, cutterFor, withUar, withRevision, withCap}
 use Rattle.opening.specs.Opening.{fails, failsBy, brokenBy, onGood, onValue, holds, onMade, opened, queryAdapter, queryFunc, initHca, mapping, areaFor, mapIcm, setIcmSize, layingOut, queryPorts, portsOf, queryDevCap, modStat, runFw, fwReply, queryFw, look, giveInbox, makeOutbox, makeInbox, onFound, findUar, firstReset, onClaimed, claim, onEnabled, enable, opening}
-use Rattle.card.specs.Card.{Card, holds as holding, No, Host, World, WorldStep}
-use Rattle.card_calls.specs.SafeCourse.{Lendable}
+use Rattle.card.specs.Card.{Card, holds as holding, No, Host, World}
 use Rattle.card_calls.proofs.Courses.{untouched}
-use Rattle.card_calls.proofs.Areas.{Placed, pages-few}
-use Rattle.card_calls.proofs.Opening.{Laid, Capped, capped-laid}
+use Rattle.card_calls.proofs.Areas.{pages-few}
+use Rattle.card_calls.proofs.Opening.{Laid, capped-laid}
 use Rattle.card_run.specs.Can.{Can, Whole, CanCourse}
 use Rattle.card_run.proofs.Command.{Idle, Well, can-command}
 use Rattle.card_run.proofs.Tasks.{So, Barless, Room, Grew, cleared, can-attributing, can-claiming, can-reset, can-finding, can-looking, can-making}
@@ -87,13 +80,13 @@ below-at (x ∷ xs) e k = by-byte (λ q. below-at xs q) (ltb x 256) refl k
     by-byte on b q zero = ltb-true x 256 (rest b q .0)
     by-byte on b q (suc k) = on (rest b q .1) k
 
-no-top : Top
+pub no-top : Top
 no-top = record { count = 0; op = 0; «op_mod» = 0; «in_mod» = 0; «in_param» = 0 }
 
-abbrev lends : List ℕ → Lent
+abbrev pub lends : List ℕ → Lent
 lends out = record { outbox = out; undo = no-top }
 
-lendable : (out : List ℕ) → Bytes out → length out ≡ 4096 → Whole (lends out)
+pub lendable : (out : List ℕ) → Bytes out → length out ≡ 4096 → Whole (lends out)
 unfolding no-top
 lendable out b l =
     record { lendable = record { outbox = b; undo = record { opMod = omega arith; inMod = omega arith; inParam = omega arith } }; outbox = l; undo = refl }
@@ -104,13 +97,13 @@ zeros (suc n) zero = let h : 0 < 256 = omega arith in h
 zeros (suc n) (suc k) = zeros n k
 
 -- an outbox with nothing in it
-abbrev empty : List ℕ
+abbrev pub empty : List ℕ
 empty = replicate 4096 0
 
-nil : Bytes empty
+pub nil : Bytes empty
 nil = zeros 4096
 
-empty-length : length empty ≡ 4096
+pub empty-length : length empty ≡ 4096
 empty-length = length-replicate {A = ℕ} 4096 0
 
 -- the end that is meant
@@ -369,7 +362,7 @@ can-claim n b h w room s =
     (can-first n b j v (subst (λ (k : World). Room 0 0 (k .host)) (sym (x .world)) room) (ap (λ (k : World). k .card .status) (x .world) ∙ s)))
 
 -- A CARD that holds nothing and a HOST that has handed out nothing
-pub card₀ : Card
+abbrev pub card₀ : Card
 card₀ =
     record {
       held = holding (λ v d. ⊥) No No No;
@@ -380,14 +373,14 @@ card₀ =
       mail = record { inbox = none; outbox = none; bytes = [] };
     }
 
-pub host₀ : Host
+abbrev pub host₀ : Host
 host₀ = record { hand = λ h. none; log = []; inbox = none; outbox = none }
 
-pub world₀ : World
+abbrev pub world₀ : World
 world₀ = record { card = card₀; host = host₀ }
 
 pub opening-runs : (h : Here) → CanCourse world₀ (opening h) IsOpen
-unfolding enable world₀ card₀ host₀
+unfolding enable
 opening-runs h =
     can-run (λ y j. onEnabled y noInfo noBooks j) (So (t.Enabled 0) world₀) neither attributing h world₀ (can-attributing world₀)
     (λ v y j x. subst (λ (d : _). CanCourse v (onEnabled d noInfo noBooks j) IsOpen) (sym (x .so))

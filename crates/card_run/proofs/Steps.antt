@@ -1,9 +1,9 @@
 -- An answer to a register read, and a script behind a test.
-use Prim.Native.Nat.{ℕ, zero, suc, _+_, _*_, _^_, _<_}
+use Prim.Native.Nat.{ℕ, _^_, _<_}
 use mathlib.Core.Bool.{Bool, true, false, false≢true}
-use mathlib.Core.List.{List, []}
+use mathlib.Core.List.{[]}
 use mathlib.Core.Option.{some}
-use mathlib.Core.Path.{_≡_, refl, sym, ap, subst}
+use mathlib.Core.Path.{_≡_, sym, ap}
 use Rattle.fields.specs.Outcome.{pick}
 use Rattle.hcr.proofs.Laws.{swap-swap}
 use Rattle.pci.specs.Script.{Script, good, read}

@@ -1,11 +1,11 @@
 -- The other tasks can end well: on a card that does nothing of itself, and a host that hands out one handle and one page after the other.
-use Prim.Native.Nat.{ℕ, zero, suc, _+_, _-_, _*_, _/_, _%_, _^_, _≤_, _<_}
+use Prim.Native.Nat.{ℕ, zero, suc, _+_, _-_, _*_, _%_, _^_, _≤_, _<_}
 use native.Mathlib.Omega.{arith}
-use mathlib.Core.Bool.{Bool, true, false, _&&_, not, false≢true}
+use mathlib.Core.Bool.{Bool, true, false, _&&_, false≢true}
 use mathlib.Core.List.{List, [], _∷_}
 use mathlib.Core.Logic.{_⊎_, inl, inr, ⊎-elim}
-use mathlib.Core.Option.{Option, some, none, Option·some-injective, Option·none-ne-some}
-use mathlib.Core.Path.{_≡_, refl, sym, _∙_, ap, ap₂, subst}
+use mathlib.Core.Option.{some, none, Option·some-injective, Option·none-ne-some}
+use mathlib.Core.Path.{_≡_, refl, sym, _∙_, ap, subst}
 use lib.Dec.{eqb, leb}
 use borrow.Author.Tests.{eq-eqb, le-leb, eqb-true, eqb-false}
 use lib.ListN.{set, replicate}
@@ -14,33 +14,30 @@ use Rattle.bars.specs.Bars.{bars}
 use Rattle.bars.specs.declared.Pick.{Pick}
 use Rattle.bars.specs.declared.Size.the-variants as z
 use Rattle.dma.specs.Buffers.{pagesFor, isPage, endsWithin}
-use Rattle.dma.specs.declared.Buffer.{Buffer}
 use Rattle.hcr.specs.Words.{firstToggle}
-use Rattle.pci.specs.Script.{Script, ret, ask, Bus, good, failed, Spot, read, write, allocate, mapped}
+use Rattle.pci.specs.Script.{Script, ret, good, failed, Spot, read, mapped}
 use Rattle.pci.specs.declared.Answer.the-variants as an
-use Rattle.reset.specs.Reset.{either, dwordAt, restoredAt, restore, restoreControl, vendor, afterwards, settle, written, semaphore, taking, control, walk, capability, save, reset, isThere}
+use Rattle.reset.specs.Reset.{dwordAt, restore, vendor, written, semaphore, save, reset}
 use Rattle.reset.specs.declared.ResetEnd.{ResetEnd}
 use Rattle.reset.specs.declared.ResetEnd.the-variants as e
 use Rattle.reset.specs.declared.Control.the-variants as c
-use Rattle.buffer.specs.Buffer.{byOutcome, release, onMap, mapping, allocating, making}
+use Rattle.buffer.specs.Buffer.{byOutcome, release, allocating, making}
 use Rattle.buffer.specs.declared.Fault.the-variants as f
 use Rattle.buffer.specs.declared.Made.{Made}
 use Rattle.buffer.specs.declared.Made.the-variants as m
 use Rattle.tasks.specs.Attributes.{attributing}
-use Rattle.tasks.specs.declared.Attributes.{Attributes}
 use Rattle.tasks.specs.declared.Attributes.the-variants as t
 use Rattle.tasks.specs.Claim.{claiming}
-use Rattle.tasks.specs.declared.Claimed.{Claimed}
 use Rattle.tasks.specs.declared.Claimed.the-variants as l
 use Rattle.uar.specs.Uar as u
 use Rattle.uar.specs.declared.Found.{Found}
 use Rattle.uar.specs.declared.Found.the-variants as fo
 use Rattle.work.specs.Work.{looking}
-use Rattle.card.specs.Card.{Card, Settles, same, afterReset, Shows, Hold, Host, Meets, On, InUse, put, mapAt, mapIn, handOut, World}
+use Rattle.card.specs.Card.{same, afterReset, Hold, Host, Meets, On, InUse, put, mapAt, mapIn, handOut, World}
 use Rattle.card.proofs.Owns.{put-same, put-other}
 use Rattle.card_run.specs.Can.{Can}
 use Rattle.card_run.proofs.Steps.{says-read, can-true}
-use Rattle.card_run.proofs.Command.{Idle}
+use Rattle.card.proofs.Bools.{and-true}
 
 -- the task ended so, and the world is as it was
 pub record So {A : Type 0} (a : A) (w v : World) (x : A) : Type 1 where
@@ -207,10 +204,6 @@ module _ (n a pages : ℕ) (fits : a + pages ≤ 2 ^ 52) (w : World) (r : Room n
 
   unused : (d : ℕ) → Meets spot d → InUse given d → ⊥
   unused d y z = let q = r .pages d (given-use d z) in let s = y .0 in let t : ⊥ = omega (arith, q, s) in t
-
-  and-true : (x y : Bool) → x ≡ true → y ≡ true → (x && y) ≡ true
-  and-true true y p q = q
-  and-true false y p q = p
 
   accepted : (isPage (a * 4096) && endsWithin (a * 4096) (pages * 4096)) ≡ true
   accepted = and-true _ _ (eq-eqb (a * 4096 % 4096) 0 (omega arith)) (le-leb (a * 4096 + pages * 4096) (2 ^ 64) (omega (arith, fits)))

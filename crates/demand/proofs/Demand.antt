@@ -1,12 +1,12 @@
 -- THE THEOREM of demand 3: what is left of each call's course is safe, after every event.
 use Prim.Native.Nat.{ℕ, _+_}
 use native.Mathlib.Omega.{arith}
-use mathlib.Core.Bool.{Bool, true, false, _&&_, not, false≢true}
+use mathlib.Core.Bool.{Bool, true, false, false≢true}
 use mathlib.Core.List.{List, [], _∷_}
 use mathlib.Core.Logic.{_⊎_, inl, inr, ⊎-elim}
-use mathlib.Core.Option.{Option, some, none, Option·some-injective, Option·none-ne-some}
+use mathlib.Core.Option.{Option, some, none, Option·some-injective}
 use mathlib.Core.Path.{_≡_, refl, sym, _∙_, ap, subst}
-use lib.Dec.{eqb, leb}
+use lib.Dec.{eqb}
 use borrow.Author.Tests.{eqb-true}
 use lib.ListN.{length}
 use Rattle.fields.specs.Outcome.{pick}
@@ -16,7 +16,7 @@ use Rattle.pci.specs.declared.Question.the-variants as q
 use Rattle.pci.specs.declared.Answer.{Answer}
 use Rattle.pci.specs.declared.Refusal.{Refusal}
 use Rattle.pci.specs.declared.Refusal.the-variants as r
-use Rattle.work.specs.Work.{isResting, taskAsks, workStepOf}
+use Rattle.work.specs.Work.{isResting, workStepOf}
 use Rattle.work.specs.declared.Work.{Work}
 use Rattle.work.specs.declared.Ending.{Ending}
 use Rattle.work.specs.declared.Ending.the-variants as e
@@ -27,7 +27,6 @@ use Rattle.session.specs.Course.{Course, ret, ask, Here, here, Lent, Left, left
 use Rattle.session.specs.declared.Top.{Top}
 use Rattle.session.specs.declared.Books.{Books}
 use Rattle.session.specs.declared.Info.{Info}
-use Rattle.session.specs.declared.Wire.{Wire}
 use Rattle.session.specs.declared.Stage.{Stage}
 use Rattle.session.specs.declared.Stage.the-variants as g
 use Rattle.session.specs.declared.Close.{Close}
@@ -44,7 +43,7 @@ use Rattle.fw.specs.Follows.{courseOf, courseAt, isRunning, hereAfter, Follows}
 use Rattle.fw.specs.declared.Turn.{Turn}
 use Rattle.fw.proofs.Landed.{counted}
 use Rattle.fw.proofs.Session.{session-follows, opens, closes}
-use Rattle.card.specs.Card.{Held, Card, Settles, Hold, Host, World, WorldStep, MayUse, Allowed}
+use Rattle.card.specs.Card.{Card, Settles, Hold, Host, World, WorldStep, MayUse, Allowed}
 use Rattle.card.specs.Owns.{Owns, outs, backs}
 use Rattle.card.proofs.Command.{within-stable, within-more, quiet-stable}
 use Rattle.card.proofs.View.{empty-uses}
@@ -54,15 +53,17 @@ use Rattle.card_calls.proofs.Courses.{Fair}
 use Rattle.card_calls.proofs.Closing.{safe-stopping}
 use Rattle.card_calls.proofs.Books.{knows-owed}
 use Rattle.card_calls.proofs.Opening.{safe-opening}
-use Rattle.demand.specs.Events.{Call, callOpen, callClose, callAnswer, Event, turn, asked, Stand, Rests, Answers, Happens, SameBox, boxLeft, isClosing, lentBy, inboxAfter, Step}
-use Rattle.demand.specs.Demand.{QuestionBy, QuestionKept, Exact, Returned, Kept, EndedBy, GoodAt, Good, Start, Always, Demand}
-use Rattle.demand.proofs.Plans.{NoHost, IsRest, Fit, Suited, HeldClose, HeldAt, Known, held-all, held-map, held-step, Both, step-both, stop-suited}
+use Rattle.demand.specs.Events.{Call, callOpen, callClose, callAnswer, Event, turn, asked, Stand, Rests, Answers, Happens, SameBox, boxLeft, isClosing, inboxAfter, Step}
+use Rattle.demand.specs.Demand.{QuestionKept, Exact, Returned, Kept, EndedBy, GoodAt, Good, Start, Always, Demand}
+use Rattle.demand.proofs.Plans.{IsRest, Fit, Suited, HeldAt, Known, held-all, held-map, held-step, Both, step-both, stop-suited}
 use Rattle.demand.proofs.Settle.{settled-uses, at, rests-at, course-settled}
 use Rattle.demand.proofs.Questions.{asked-shown, rest-asks, nothing-asked, task-leaves}
 use Rattle.demand.proofs.OnePage.{one-page}
-use Rattle.card.specs.Known.{Empty, Nothing, Quiet, Within}
+use Rattle.card.specs.Known.{Empty, Nothing, Quiet}
 use Rattle.card_calls.specs.Owed.{OwedBy}
 use Rattle.card_calls.specs.Holding.{Calm, Knows, Opened}
+use Rattle.card.proofs.Bools.{and-left, and-right}
+use Rattle.demand.proofs.Inbox.{step-length}
 
 -- WHAT IS SO AT THE END OF A CALL. Nothing was asked of the host yet; or all is given back, and the card may use no page unless nothing was asked; or all is kept
 record Waiting (k : Host) (w : World) : Type 1 where
@@ -132,9 +133,10 @@ record Inv (base : ℕ → Option Hold) (k : Host) (x : Stand) : Type 1 where
   pub balanced : Balanced base (x .world .host)
   pub suited : Suited (x .session)
   pub held : HeldAt (x .session .stage) (x .session .closing) (x .world .host ≡ x .began)
+  pub long : isRunning (x .session .stage) ≡ true → length (x .inbox) ≡ 4096
 
 -- a call in time, and with all that it must be lent; or not
-in-good : {A : Type 0} (t r : Bool) (y s w : A) → t ≡ true → r ≡ true → inTime t r y s w ≡ y
+pub in-good : {A : Type 0} (t r : Bool) (y s w : A) → t ≡ true → r ≡ true → inTime t r y s w ≡ y
 in-good true true y s w p q = refl
 in-good true false y s w p q = absurd (false≢true q)
 in-good false r y s w p q = absurd (false≢true p)
@@ -147,14 +149,6 @@ in-short false r y s w p q = absurd (false≢true p)
 in-wrong : {A : Type 0} (t r : Bool) (y s w : A) → t ≡ false → inTime t r y s w ≡ w
 in-wrong true r y s w p = absurd (false≢true (sym p))
 in-wrong false r y s w p = refl
-
-and-left : (a b : Bool) → (a && b) ≡ true → a ≡ true
-and-left true b e = refl
-and-left false b e = e
-
-and-right : (a b : Bool) → (a && b) ≡ true → b ≡ true
-and-right true b e = e
-and-right false b e = absurd (false≢true e)
 
 lent-length : (i o : List ℕ) (u : Top) → isLent i o u ≡ true → length i ≡ 4096
 lent-length i o u e = eqb-true (length i) 4096 (and-left (eqb (length i) 4096) _ e)
@@ -175,6 +169,19 @@ open-stage (g.Prepare y) e = absurd (false≢true e)
 open-stage (g.Boot y) e = absurd (false≢true e)
 open-stage (g.Close y) e = absurd (false≢true e)
 
+-- a task that is not under way
+resting : (z : Task) → isResting z ≡ true → IsRest z
+resting t.Rest e = tt
+resting (t.Attr z) e = absurd (false≢true e)
+resting (t.Claim z) e = absurd (false≢true e)
+resting t.Reset e = absurd (false≢true e)
+resting t.Bar e = absurd (false≢true e)
+resting (t.Make z) e = absurd (false≢true e)
+resting (t.Free z) e = absurd (false≢true e)
+resting t.Look e = absurd (false≢true e)
+resting (t.Cmd z) e = absurd (false≢true e)
+resting (t.Part z) e = absurd (false≢true e)
+
 -- the host as it was when the closing began
 began-kept : (b : Bool) (was now k l : Host) → now ≡ pick b was l → l ≡ k → k ≡ was → l ≡ now
 began-kept true was now k l e h i = h ∙ i ∙ sym e
@@ -185,7 +192,7 @@ turn-taken : (s : Session) (a : Answer) (w : Work) (i o : List ℕ) (u : Top) (n
 turn-taken s a w i o u e.Going = refl
 turn-taken s a w i o u (e.Ended z) = refl
 
-step-taken : (s : Session) (a : Answer) (r i o : List ℕ) (u : Top) → stepOf s a r i o u .refusal ≡ f.Nothing
+pub step-taken : (s : Session) (a : Answer) (r i o : List ℕ) (u : Top) → stepOf s a r i o u .refusal ≡ f.Nothing
 unfolding stepOf
 step-taken s a r i o u = turn-taken s a (workStepOf (s .work) a r .work) i o u (workStepOf (s .work) a r .ending)
 
@@ -244,14 +251,15 @@ module _ (k : Host) (log : k .log ≡ []) (in-none : k .inbox ≡ none) (out-non
   ended-good x c.Reset bal h p = returned x bal p
   ended-good x c.Kept bal h p = record { named = p .owns; none = h refl }
 
-  good : (x : Stand) → Inv base k x → Good base x
-  good x i = by-stage (x .session .stage) refl
+  state : (x : Stand) → Inv base k x → GoodAt base (x .session .stage) x
+  state x i = by-stage (x .session .stage) refl
     where
-      exact : Opened base (x .session .info) (x .session .books) (x .world) → Exact (x .session .info) (x .session .books) (x .world .card)
+      exact : Opened base (x .session .info) (x .session .books) (x .world) → Exact (x .session .info) (x .session .books) (x .world)
       exact o = record {
         fourteen = o .fourteen;
         laid = o .laid;
         icm = o .card .now .icm;
+        boxes = o .boxes;
         one = λ y z d a b. one-page (x .session .books) (o .owns .apart) y z d (o .card .now .icm y d .0 a) (o .card .now .icm z d .0 b);
       }
 
@@ -264,27 +272,65 @@ module _ (k : Host) (log : k .log ≡ []) (in-none : k .inbox ≡ none) (out-non
       by-stage (g.Boot y) e = record {}
       by-stage (g.Close y) e = record {}
 
+  -- SOMETHING IS ASKED
+  module _ (x : Stand) (i : Inv base k x) (n : List ℕ) where
+    -- so a call is running and a task is under way
+    idle : (p : Ask) → asked (asksOf (x .session)) n ≡ some p → IsRest (x .session .work .task) → ⊥
+    idle p e r = nothing-asked (asksOf (x .session)) n p (rest-asks (x .session .work .reset) (x .session .work .find) (x .session .work .task) r) e
+
+    runs : (p : Ask) → asked (asksOf (x .session)) n ≡ some p → (st : Stage) → x .session .stage ≡ st → isRunning st ≡ true
+    runs p e g.Fresh s = absurd (idle p e (subst (λ (z : Stage). Fit z (x .session .closing) (x .session .work .task)) s (i .suited)))
+    runs p e g.Open s = absurd (idle p e (subst (λ (z : Stage). Fit z (x .session .closing) (x .session .work .task)) s (i .suited)))
+    runs p e g.Ended s = absurd (idle p e (subst (λ (z : Stage). Fit z (x .session .closing) (x .session .work .task)) s (i .suited)))
+    runs p e (g.Prepare y) s = refl
+    runs p e (g.Boot y) s = refl
+    runs p e (g.Close y) s = refl
+
+    busy : (p : Ask) → asked (asksOf (x .session)) n ≡ some p → (b : Bool) → isResting (x .session .work .task) ≡ b → isResting (x .session .work .task) ≡ false
+    busy p e true r = absurd (idle p e (resting (x .session .work .task) r))
+    busy p e false r = r
+
+    follows : (p : Ask) → asked (asksOf (x .session)) n ≡ some p → length n ≡ 4096 → Follows (x .session) (here n (i .there .outbox) (i .there .undo)) (courseOf (x .session) (here n (i .there .outbox) (i .there .undo)))
+    follows p e l =
+        session-follows (x .session) (here n (i .there .outbox) (i .there .undo)) l (runs p e (x .session .stage) refl) (busy p e (isResting (x .session .work .task)) refl)
+
+    safe-here : n ≡ x .inbox → SafeCourse (x .world) (courseOf (x .session) (here n (i .there .outbox) (i .there .undo))) (Post base k)
+    safe-here e = subst (λ (z : List ℕ). SafeCourse (x .world) (courseOf (x .session) (here z (i .there .outbox) (i .there .undo))) (Post base k)) (i .box ∙ sym e) (i .safe)
+
+    -- the question is the course's, which is allowed
+    asked-by : (h : Here) (z : Course Rest) → h .inbox ≡ n → Follows (x .session) h z → SafeCourse (x .world) z (Post base k) → (p : Ask) → asked (asksOf (x .session)) n ≡ some p → Allowed n (x .world) p
+    asked-by h (ret l r₁) b fol s p e = absurd (nothing-asked (asksOf (x .session)) n p (fol .0) e)
+    asked-by h (ask q l d) b fol s p e =
+        let al : Allowed n (x .world) q = subst (λ (z : List ℕ). Allowed z (x .world) q) (ap (λ (z : Left). z .inbox) (fol .1) ∙ b) (s .0) in
+        subst (Allowed n (x .world)) (Option·some-injective q p (sym (ap (λ z. asked z n) (fol .0) ∙ asked-shown q n (x .world) al) ∙ e)) al
+
+  question : (x : Stand) → Inv base k x → QuestionKept x
+  question x i p e =
+      asked-by x i (x .inbox) (here (x .inbox) (i .there .outbox) (i .there .undo)) (courseOf (x .session) (here (x .inbox) (i .there .outbox) (i .there .undo))) refl
+      (follows x i (x .inbox) p e (i .long (runs x i (x .inbox) p e (x .session .stage) refl))) (safe-here x i (x .inbox) refl) p e
+
+  good : (x : Stand) → Inv base k x → Good base x
+  good x i = record { question = question x i; state = state x i }
+
   -- A REFUSED CALL leaves everything; a pending command may end
-  refused : (x : Stand) (e : Event) (y : Stand) (z : Refusal) → turn (x .session) e .session ≡ x .session → turn (x .session) e .refusal ≡ f.By z → Inv base k x → Step x e y
-      → QuestionKept x e × Inv base k y
-  refused x e y z s r i st = (
-    subst (λ (h : Failure). QuestionBy h (e .call) (x .session) (e .inbox) (x .world)) (sym r) tt,
-    record {
-      there = i .there;
-      box = i .box ∙ sym inbox;
-      safe =
-          subst (λ (h : Session). SafeCourse (y .world) (courseOf h (i .there)) (Post base k)) (sym session)
-          (subst (λ (v : World). SafeCourse v (courseOf (x .session) (i .there)) (Post base k)) (sym (rests-at (x .world) (y .world) (rests .1)))
-          (course-settled (Post base k) (courseOf (x .session) (i .there)) (x .world) (y .world .card) (rests .0)
-          (λ h p. post-settled base k (x .world) (y .world .card) (h .info) (h .books) (h .closing) (h .stage) (rests .0) p) (i .safe)));
-      balanced = subst (Balanced base) (sym (rests .1)) (i .balanced);
-      suited = subst Suited (sym session) (i .suited);
-      held =
-          subst (λ (h : Session). HeldAt (h .stage) (h .closing) (y .world .host ≡ y .began)) (sym session)
-          (held-map (x .session .stage) (x .session .closing) (x .world .host ≡ x .began) (y .world .host ≡ y .began)
-          (began-kept (isClosing (x .session .stage)) (x .began) (y .began) (x .world .host) (y .world .host) (st .began) (rests .1)) (i .held));
-    },
-  )
+  refused : (x : Stand) (e : Event) (y : Stand) (z : Refusal) → turn (x .session) e .session ≡ x .session → turn (x .session) e .refusal ≡ f.By z → Inv base k x → Step x e y → Inv base k y
+  refused x e y z s r i st =
+      record {
+        there = i .there;
+        box = i .box ∙ sym inbox;
+        safe =
+            subst (λ (h : Session). SafeCourse (y .world) (courseOf h (i .there)) (Post base k)) (sym session)
+            (subst (λ (v : World). SafeCourse v (courseOf (x .session) (i .there)) (Post base k)) (sym (rests-at (x .world) (y .world) (rests .1)))
+            (course-settled (Post base k) (courseOf (x .session) (i .there)) (x .world) (y .world .card) (rests .0)
+            (λ h p. post-settled base k (x .world) (y .world .card) (h .info) (h .books) (h .closing) (h .stage) (rests .0) p) (i .safe)));
+        balanced = subst (Balanced base) (sym (rests .1)) (i .balanced);
+        suited = subst Suited (sym session) (i .suited);
+        held =
+            subst (λ (h : Session). HeldAt (h .stage) (h .closing) (y .world .host ≡ y .began)) (sym session)
+            (held-map (x .session .stage) (x .session .closing) (x .world .host ≡ x .began) (y .world .host ≡ y .began)
+            (began-kept (isClosing (x .session .stage)) (x .began) (y .began) (x .world .host) (y .world .host) (st .began) (rests .1)) (i .held));
+        long = λ q. ap length inbox ∙ i .long (ap (λ (h : Session). isRunning (h .stage)) (sym session) ∙ q);
+      }
     where
       rests : Rests (x .world) (y .world)
       rests = subst (λ (h : Failure). Happens h (e .call) (x .session) (e .inbox) (x .world) (y .world)) r (st .world)
@@ -300,22 +346,21 @@ module _ (k : Host) (log : k .log ≡ []) (in-none : k .inbox ≡ none) (out-non
     fair : Lendable (record { outbox = o; undo = u }) → isLent n o u ≡ true → Fair (here n o u)
     fair a b = record { inbox = lent-length n o u b; outbox = a .outbox; undo = a .undo }
 
-    opened-by : openable (x .session) ≡ true → isLent n o u ≡ true → Step x (event callOpen n o u) y → QuestionKept x (event callOpen n o u) × Inv base k y
-    opened-by a b st = (
-      subst (λ (h : Turn). QuestionBy (h .refusal) callOpen (x .session) n (x .world)) (sym t) tt,
-      record {
-        there = here n o u;
-        box = sym (st .left ∙ ap (λ (h : Turn). boxLeft (h .refusal) n (x .inbox)) t);
-        safe =
-            subst (λ (h : Session). SafeCourse (y .world) (courseOf h (here n o u)) (Post base k)) (sym session)
-            (subst (λ (h : Course Rest). SafeCourse (y .world) h (Post base k)) (sym (opens (here n o u)))
-            (safe-opening base (Post base k) k back kept opened early (here n o u) (y .world) (fair (st .lendable) b) host (subst (Owns base []) (sym host) start-owns)
-            (ap (λ (h : Host). h .inbox) host ∙ in-none) (ap (λ (h : Host). h .outbox) host ∙ out-none)));
-        balanced = subst (Balanced base) (sym (rests .1)) (i .balanced);
-        suited = subst Suited (sym session) tt;
-        held = subst (λ (h : Session). HeldAt (h .stage) (h .closing) (y .world .host ≡ y .began)) (sym session) tt;
-      },
-    )
+    opened-by : openable (x .session) ≡ true → isLent n o u ≡ true → Step x (event callOpen n o u) y → Inv base k y
+    opened-by a b st =
+        record {
+          there = here n o u;
+          box = sym (st .left ∙ ap (λ (h : Turn). boxLeft (h .refusal) n (x .inbox)) t);
+          safe =
+              subst (λ (h : Session). SafeCourse (y .world) (courseOf h (here n o u)) (Post base k)) (sym session)
+              (subst (λ (h : Course Rest). SafeCourse (y .world) h (Post base k)) (sym (opens (here n o u)))
+              (safe-opening base (Post base k) k back kept opened early (here n o u) (y .world) (fair (st .lendable) b) host (subst (Owns base []) (sym host) start-owns)
+              (ap (λ (h : Host). h .inbox) host ∙ in-none) (ap (λ (h : Host). h .outbox) host ∙ out-none)));
+          balanced = subst (Balanced base) (sym (rests .1)) (i .balanced);
+          suited = subst Suited (sym session) tt;
+          held = subst (λ (h : Session). HeldAt (h .stage) (h .closing) (y .world .host ≡ y .began)) (sym session) tt;
+          long = λ q. ap length (st .left ∙ ap (λ (h : Turn). boxLeft (h .refusal) n (x .inbox)) t) ∙ lent-length n o u b;
+        }
       where
         t : openOf (x .session) n o u ≡ begins (openPlan fresh u)
         t = in-good (openable (x .session)) (isLent n o u) _ _ _ a b
@@ -333,29 +378,28 @@ module _ (k : Host) (log : k .log ≡ []) (in-none : k .inbox ≡ none) (out-non
         host = rests .1 ∙ at-stage x g.Fresh stage refl i .host
 
     -- AN ACCEPTED CLOSE
-    closed-by : closable (x .session) ≡ true → isLent n o u ≡ true → Step x (event callClose n o u) y → QuestionKept x (event callClose n o u) × Inv base k y
-    closed-by a b st = (
-      subst (λ (h : Turn). QuestionBy (h .refusal) callClose (x .session) n (x .world)) (sym t) tt,
-      record {
-        there = here n o (counted u (closingOf (x .session) u .undo));
-        box = sym (st .left ∙ ap (λ (h : Turn). boxLeft (h .refusal) n (x .inbox)) t);
-        safe =
-            subst (λ (h : Session). SafeCourse (y .world) (courseOf h (here n o (counted u (closingOf (x .session) u .undo)))) (Post base k)) (sym session)
-            (subst (λ (h : Course Rest). SafeCourse (y .world) h (Post base k)) (sym (closes (x .session) (here n o u)))
-            (safe-stopping (x .session .info) f.Nothing (Post base k) base (y .world .host)
-            (λ z d v e s r. back (x .session .info) f.Nothing z (emptied d) v e s r) (λ d v s r. kept (x .session .info) f.Nothing d v s)
-            (x .session .books) (here n o u) (y .world) (was .entries .addressed) (fair (st .lendable) b) refl
-            (subst (Owns base (lendsFrom (x .session .books) 0)) (sym (rests .1)) (was .owns))
-            (λ z. (
-              within-more (Knows (x .session .books)) (OwedBy (x .session .books)) Calm (λ p. Unit {0}) (y .world .card) (λ h s. knows-owed (x .session .books) h (was .entries) s) (λ p s. tt)
-                  (within-stable (Knows (x .session .books)) Calm (x .world .card) (y .world .card) (rests .0) (was .card)),
-              λ s. none-settled (x .world .card) (y .world .card) (rests .0) (was .quiet s),
-            ))));
-        balanced = subst (Balanced base) (sym (rests .1)) (i .balanced);
-        suited = subst Suited (sym session) (stop-suited (withoutFailure (x .session)) u);
-        held = held-all (y .session .stage) (y .session .closing) (y .world .host ≡ y .began) (sym (st .began ∙ ap (λ (h : Stage). pick (isClosing h) (x .began) (y .world .host)) stage));
-      },
-    )
+    closed-by : closable (x .session) ≡ true → isLent n o u ≡ true → Step x (event callClose n o u) y → Inv base k y
+    closed-by a b st =
+        record {
+          there = here n o (counted u (closingOf (x .session) u .undo));
+          box = sym (st .left ∙ ap (λ (h : Turn). boxLeft (h .refusal) n (x .inbox)) t);
+          safe =
+              subst (λ (h : Session). SafeCourse (y .world) (courseOf h (here n o (counted u (closingOf (x .session) u .undo)))) (Post base k)) (sym session)
+              (subst (λ (h : Course Rest). SafeCourse (y .world) h (Post base k)) (sym (closes (x .session) (here n o u)))
+              (safe-stopping (x .session .info) f.Nothing (Post base k) base (y .world .host)
+              (λ z d v e s r. back (x .session .info) f.Nothing z (emptied d) v e s r) (λ d v s r. kept (x .session .info) f.Nothing d v s)
+              (x .session .books) (here n o u) (y .world) (was .entries .addressed) (fair (st .lendable) b) refl
+              (subst (Owns base (lendsFrom (x .session .books) 0)) (sym (rests .1)) (was .owns))
+              (λ z. (
+                within-more (Knows (x .session .books)) (OwedBy (x .session .books)) Calm (λ p. Unit {0}) (y .world .card) (λ h s. knows-owed (x .session .books) h (was .entries) s) (λ p s. tt)
+                    (within-stable (Knows (x .session .books)) Calm (x .world .card) (y .world .card) (rests .0) (was .card)),
+                λ s. none-settled (x .world .card) (y .world .card) (rests .0) (was .quiet s),
+              ))));
+          balanced = subst (Balanced base) (sym (rests .1)) (i .balanced);
+          suited = subst Suited (sym session) (stop-suited (withoutFailure (x .session)) u);
+          held = held-all (y .session .stage) (y .session .closing) (y .world .host ≡ y .began) (sym (st .began ∙ ap (λ (h : Stage). pick (isClosing h) (x .began) (y .world .host)) stage));
+          long = λ q. ap length (st .left ∙ ap (λ (h : Turn). boxLeft (h .refusal) n (x .inbox)) t) ∙ lent-length n o u b;
+        }
       where
         t : closeOf (x .session) n o u ≡ closingOf (x .session) u
         t = in-good (closable (x .session)) (isLent n o u) _ _ _ a b
@@ -385,56 +429,25 @@ module _ (k : Host) (log : k .log ≡ []) (in-none : k .inbox ≡ none) (out-non
       Onward v = SafeCourse v (courseOf (stepOf (x .session) a res n o u .session) (hereAfter (x .session) a res h₁ m)) (Post base k) × Balanced base (v .host)
 
       by-course : (z : Course Rest) → Follows (x .session) h₁ z → SafeCourse (x .world) z (Post base k) → Lendable m → (v : World) (p : Ask) (r : Reply p) → asked (asksOf (x .session)) n ≡ some p
-          → replyOf p a res ≡ some r → WorldStep (x .world) p r v → Allowed n (x .world) p × Onward v
+          → replyOf p a res ≡ some r → WorldStep (x .world) p r v → Onward v
       by-course (ret l r₁) fol s ok v p r e₁ e₂ st = absurd (nothing-asked (asksOf (x .session)) n p (fol .0) e₁)
       by-course (ask q l d) fol s ok v p r e₁ e₂ st =
           let al : Allowed n (x .world) q = subst (λ (z : Left). Allowed (z .inbox) (x .world) q) (fol .1) (s .0) in
           let same : q ≡ p = Option·some-injective q p (sym (ap (λ z. asked z n) (fol .0) ∙ asked-shown q n (x .world) al) ∙ e₁) in
-          subst (λ (z : Ask). (r : Reply z) → replyOf z a res ≡ some r → WorldStep (x .world) z r v → Allowed n (x .world) z × Onward v) same
+          subst (λ (z : Ask). (r : Reply z) → replyOf z a res ≡ some r → WorldStep (x .world) z r v → Onward v) same
           (λ r e st. (
-            al,
-            (
-              subst (λ (z : Course Rest). SafeCourse v z (Post base k))
-                  (sym (subst (λ (z : Option (Reply q)). Right z (λ r. courseOf (stepOf (x .session) a res n o u .session) (hereAfter (x .session) a res h₁ m) ≡ d r m) (Unit {0})) e (fol .2 a res m)))
-                  (s .1 r m v ok st),
-              step-balanced base q r n (x .world) v al st (i .balanced),
-            ),
+            subst (λ (z : Course Rest). SafeCourse v z (Post base k))
+                (sym (subst (λ (z : Option (Reply q)). Right z (λ r. courseOf (stepOf (x .session) a res n o u .session) (hereAfter (x .session) a res h₁ m) ≡ d r m) (Unit {0})) e (fol .2 a res m)))
+                (s .1 r m v ok st),
+            step-balanced base q r n (x .world) v al st (i .balanced),
           )) r e₂ st
-
-      resting : (z : Task) → isResting z ≡ true → IsRest z
-      resting t.Rest e = tt
-      resting (t.Attr z) e = absurd (false≢true e)
-      resting (t.Claim z) e = absurd (false≢true e)
-      resting t.Reset e = absurd (false≢true e)
-      resting t.Bar e = absurd (false≢true e)
-      resting (t.Make z) e = absurd (false≢true e)
-      resting (t.Free z) e = absurd (false≢true e)
-      resting t.Look e = absurd (false≢true e)
-      resting (t.Cmd z) e = absurd (false≢true e)
-      resting (t.Part z) e = absurd (false≢true e)
-
-      -- something was asked, so a call is running and a task is under way
-      idle : (p : Ask) → asked (asksOf (x .session)) n ≡ some p → IsRest (x .session .work .task) → ⊥
-      idle p e r = nothing-asked (asksOf (x .session)) n p (rest-asks (x .session .work .reset) (x .session .work .find) (x .session .work .task) r) e
-
-      runs : (p : Ask) → asked (asksOf (x .session)) n ≡ some p → (st : Stage) → x .session .stage ≡ st → isRunning st ≡ true
-      runs p e g.Fresh s = absurd (idle p e (subst (λ (z : Stage). Fit z (x .session .closing) (x .session .work .task)) s (i .suited)))
-      runs p e g.Open s = absurd (idle p e (subst (λ (z : Stage). Fit z (x .session .closing) (x .session .work .task)) s (i .suited)))
-      runs p e g.Ended s = absurd (idle p e (subst (λ (z : Stage). Fit z (x .session .closing) (x .session .work .task)) s (i .suited)))
-      runs p e (g.Prepare y) s = refl
-      runs p e (g.Boot y) s = refl
-      runs p e (g.Close y) s = refl
-
-      busy : (p : Ask) → asked (asksOf (x .session)) n ≡ some p → (b : Bool) → isResting (x .session .work .task) ≡ b → isResting (x .session .work .task) ≡ false
-      busy p e true r = absurd (idle p e (resting (x .session .work .task) r))
-      busy p e false r = r
 
       -- what is so of the host when the closing began
       known : (p : Ask) (r : Reply p) → asked (asksOf (x .session)) n ≡ some p → WorldStep (x .world) p r (y .world) → y .began ≡ pick (isClosing (x .session .stage)) (x .began) (y .world .host)
           → (st : Stage) → x .session .stage ≡ st → Known st (x .session .closing) (y .world .host ≡ y .began)
-      known p r e st b g.Fresh s = idle p e (subst (λ (z : Stage). Fit z (x .session .closing) (x .session .work .task)) s (i .suited))
-      known p r e st b g.Open s = idle p e (subst (λ (z : Stage). Fit z (x .session .closing) (x .session .work .task)) s (i .suited))
-      known p r e st b g.Ended s = idle p e (subst (λ (z : Stage). Fit z (x .session .closing) (x .session .work .task)) s (i .suited))
+      known p r e st b g.Fresh s = idle x i n p e (subst (λ (z : Stage). Fit z (x .session .closing) (x .session .work .task)) s (i .suited))
+      known p r e st b g.Open s = idle x i n p e (subst (λ (z : Stage). Fit z (x .session .closing) (x .session .work .task)) s (i .suited))
+      known p r e st b g.Ended s = idle x i n p e (subst (λ (z : Stage). Fit z (x .session .closing) (x .session .work .task)) s (i .suited))
       known p r e st b (g.Prepare z) s = sym (b ∙ ap (λ (h : Stage). pick (isClosing h) (x .began) (y .world .host)) s)
       known p r e st b (g.Boot z) s = sym (b ∙ ap (λ (h : Stage). pick (isClosing h) (x .began) (y .world .host)) s)
       known p r e st b (g.Close z) s =
@@ -445,19 +458,17 @@ module _ (k : Host) (log : k .log ≡ []) (in-none : k .inbox ≡ none) (out-non
           (subst (λ (h : Stage). Fit h (x .session .closing) (x .session .work .task)) s (i .suited))
           (subst (λ (h : Stage). HeldAt h (x .session .closing) (x .world .host ≡ x .began)) s (i .held))
 
-      answered-by : answerable (x .session) a ≡ true → isLent n o u ≡ true → Step x (event (callAnswer a res) n o u) y → QuestionKept x (event (callAnswer a res) n o u) × Inv base k y
-      answered-by d b st = (
-        subst (λ (h : Failure). QuestionBy h (callAnswer a res) (x .session) n (x .world)) (sym (ap (λ (h : Turn). h .refusal) turned ∙ taken))
-            (λ p e. subst (λ (z : Ask). Allowed n (x .world) z) (Option·some-injective (world .0) p (sym (world .2) ∙ e)) (done .0)),
-        record {
-          there = hereAfter (x .session) a res h₁ m;
-          box = sym (st .left ∙ ap (λ (h : Failure). boxLeft h (answerIn (x .session) a res n o u) (x .inbox)) (ap (λ (h : Turn). h .refusal) turned ∙ taken) ∙ boxed);
-          safe = subst (λ (h : Session). SafeCourse (y .world) (courseOf h (hereAfter (x .session) a res h₁ m)) (Post base k)) (sym session) (done .1 .0);
-          balanced = done .1 .1;
-          suited = subst Suited (sym session) (both .0);
-          held = subst (λ (h : Session). HeldAt (h .stage) (h .closing) (y .world .host ≡ y .began)) (sym session) (both .1);
-        },
-      )
+      answered-by : answerable (x .session) a ≡ true → isLent n o u ≡ true → Step x (event (callAnswer a res) n o u) y → Inv base k y
+      answered-by d b st =
+          record {
+            there = hereAfter (x .session) a res h₁ m;
+            box = sym (st .left ∙ ap (λ (h : Failure). boxLeft h (answerIn (x .session) a res n o u) (x .inbox)) (ap (λ (h : Turn). h .refusal) turned ∙ taken) ∙ boxed);
+            safe = subst (λ (h : Session). SafeCourse (y .world) (courseOf h (hereAfter (x .session) a res h₁ m)) (Post base k)) (sym session) (done .0);
+            balanced = done .1;
+            suited = subst Suited (sym session) (both .0);
+            held = subst (λ (h : Session). HeldAt (h .stage) (h .closing) (y .world .host ≡ y .began)) (sym session) (both .1);
+            long = λ q. ap length (st .left ∙ ap (λ (h : Failure). boxLeft h (answerIn (x .session) a res n o u) (x .inbox)) (ap (λ (h : Turn). h .refusal) turned ∙ taken) ∙ boxed) ∙ step-length (x .session) a res n o u (lent-length n o u b);
+          }
         where
           turned : answerOf (x .session) a res n o u ≡ stepOf (x .session) a res n o u
           turned = in-good (answerable (x .session) a) (isLent n o u) _ _ _ d b
@@ -477,24 +488,21 @@ module _ (k : Host) (log : k .log ≡ []) (in-none : k .inbox ≡ none) (out-non
           lent : n ≡ x .inbox
           lent = subst (λ (h : Failure). SameBox h n (x .inbox)) (ap (λ (h : Turn). h .refusal) turned ∙ taken) (st .lent)
 
-          safe : SafeCourse (x .world) (courseOf (x .session) h₁) (Post base k)
-          safe = subst (λ (z : List ℕ). SafeCourse (x .world) (courseOf (x .session) (here z (i .there .outbox) (i .there .undo))) (Post base k)) (i .box ∙ sym lent) (i .safe)
-
-          done : Allowed n (x .world) (world .0) × Onward (y .world)
+          done : Onward (y .world)
           done =
               by-course (courseOf (x .session) h₁)
-              (session-follows (x .session) h₁ (lent-length n o u b) (runs (world .0) (world .2) (x .session .stage) refl) (busy (world .0) (world .2) (isResting (x .session .work .task)) refl))
-              safe (st .lendable) (y .world) (world .0) (world .1) (world .2) (world .3) (world .4)
+              (follows x i n (world .0) (world .2) (lent-length n o u b))
+              (safe-here x i n lent) (st .lendable) (y .world) (world .0) (world .1) (world .2) (world .3) (world .4)
 
           both : Both (y .world .host ≡ y .began) (stepOf (x .session) a res n o u .session)
           both =
               step-both (y .world .host ≡ y .began) (x .session) a res n o u (i .suited) (known (world .0) (world .1) (world .2) (world .4) (st .began) (x .session .stage) refl)
 
   -- ANY EVENT
-  step : (x : Stand) (a : Call) (n o : List ℕ) (u : Top) (y : Stand) → Inv base k x → Step x (event a n o u) y → QuestionKept x (event a n o u) × Inv base k y
+  step : (x : Stand) (a : Call) (n o : List ℕ) (u : Top) (y : Stand) → Inv base k x → Step x (event a n o u) y → Inv base k y
   step x callOpen n o u y i st = by-time (openable (x .session)) refl (isLent n o u) refl
     where
-      by-time : (t : Bool) → openable (x .session) ≡ t → (r : Bool) → isLent n o u ≡ r → QuestionKept x (event callOpen n o u) × Inv base k y
+      by-time : (t : Bool) → openable (x .session) ≡ t → (r : Bool) → isLent n o u ≡ r → Inv base k y
       by-time true p true q = opened-by x y n o u i p q st
       by-time true p false q =
           let z = in-short (openable (x .session)) (isLent n o u) (begins (openPlan fresh u)) (refusedOf (x .session) r.Short (u .count)) (refusedOf (x .session) r.Wrong (u .count)) p q in
@@ -504,7 +512,7 @@ module _ (k : Host) (log : k .log ≡ []) (in-none : k .inbox ≡ none) (out-non
           refused x (event callOpen n o u) y r.Wrong (ap (λ (h : Turn). h .session) z) (ap (λ (h : Turn). h .refusal) z) i st
   step x callClose n o u y i st = by-time (closable (x .session)) refl (isLent n o u) refl
     where
-      by-time : (t : Bool) → closable (x .session) ≡ t → (r : Bool) → isLent n o u ≡ r → QuestionKept x (event callClose n o u) × Inv base k y
+      by-time : (t : Bool) → closable (x .session) ≡ t → (r : Bool) → isLent n o u ≡ r → Inv base k y
       by-time true p true q = closed-by x y n o u i p q st
       by-time true p false q =
           let z = in-short (closable (x .session)) (isLent n o u) (closingOf (x .session) u) (refusedOf (x .session) r.Short (u .count)) (refusedOf (x .session) r.Wrong (u .count)) p q in
@@ -514,7 +522,7 @@ module _ (k : Host) (log : k .log ≡ []) (in-none : k .inbox ≡ none) (out-non
           refused x (event callClose n o u) y r.Wrong (ap (λ (h : Turn). h .session) z) (ap (λ (h : Turn). h .refusal) z) i st
   step x (callAnswer a res) n o u y i st = by-time (answerable (x .session) a) refl (isLent n o u) refl
     where
-      by-time : (t : Bool) → answerable (x .session) a ≡ t → (r : Bool) → isLent n o u ≡ r → QuestionKept x (event (callAnswer a res) n o u) × Inv base k y
+      by-time : (t : Bool) → answerable (x .session) a ≡ t → (r : Bool) → isLent n o u ≡ r → Inv base k y
       by-time true p true q = answered-by x y n o u i a res p q st
       by-time true p false q =
           let z = in-short (answerable (x .session) a) (isLent n o u) (stepOf (x .session) a res n o u) (refusedOf (x .session) r.Short (u .count)) (refusedOf (x .session) r.Wrong (u .count)) p q in
@@ -525,10 +533,7 @@ module _ (k : Host) (log : k .log ≡ []) (in-none : k .inbox ≡ none) (out-non
 
   always : (es : List Event) (x : Stand) → Inv base k x → Always base es x
   always [] x i = good x i
-  always (z ∷ es) x i = (
-    good x i,
-    λ y st. let s = step x (z .call) (z .inbox) (z .outbox) (z .undo) y i st in (s .0, always es y (s .1)),
-  )
+  always (z ∷ es) x i = (good x i, λ y st. always es y (step x (z .call) (z .inbox) (z .outbox) (z .undo) y i st))
 
 -- A FRESH SESSION
 no-top : Top
@@ -542,6 +547,7 @@ starts x s = record {
   balanced = λ h. subst (λ (l : List _). outs h l + inHand (x .world .host .hand h) ≡ backs h l + inHand (x .world .host .hand h)) (sym (s .log)) refl;
   suited = subst Suited (sym (s .session)) tt;
   held = subst (λ (h : Session). HeldAt (h .stage) (h .closing) (x .world .host ≡ x .began)) (sym (s .session)) tt;
+  long = λ q. absurd (false≢true (ap (λ (h : Session). isRunning (h .stage)) (sym (s .session)) ∙ q));
 }
 
 pub demand : Demand

@@ -2,4 +2,5 @@ pub mod Plans
 pub mod Settle
 pub mod Questions
 pub mod OnePage
+pub mod Inbox
 pub mod Demand

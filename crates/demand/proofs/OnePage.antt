@@ -1,19 +1,17 @@
 -- Different card pages lie on different device pages.
-use Prim.Native.Nat.{ℕ, zero, suc, _+_, _-_, _*_, _/_, _<_}
+use Prim.Native.Nat.{ℕ, zero, suc, _+_, _-_, _<_}
 use native.Mathlib.Omega.{arith}
 use mathlib.Core.Bool.{Bool, true, false}
 use mathlib.Core.List.{List, [], _∷_, _++_}
-use mathlib.Core.Path.{_≡_, refl, sym, _∙_, ap, subst}
+use mathlib.Core.Path.{_≡_, refl, subst}
 use lib.Dec.{eqb, ltb}
 use borrow.Author.Tests.{eqb-true, eqb-false, ltb-true, ltb-false}
 use Rattle.dma.specs.Pages.{table}
-use Rattle.dma.specs.declared.Buffer.{Buffer}
 use Rattle.session.specs.Session.{icmAt, bufferAt, bufferOf}
 use Rattle.session.specs.declared.Icm.{Icm}
 use Rattle.session.specs.declared.Books.{Books}
 use Rattle.closing.specs.Closing.{areas, rangesFrom, lendsFrom}
-use Rattle.card.specs.Card.{Meets}
-use Rattle.card.specs.Owns.{Each, Pairwise, Apart, spotOf}
+use Rattle.card.specs.Owns.{Each, Pairwise, Apart}
 use Rattle.card_calls.specs.Ranges.{OnRange, InRanges}
 use Rattle.card_calls.proofs.Books.{range-meets}
 

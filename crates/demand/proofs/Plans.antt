@@ -1,8 +1,8 @@
 -- What the machine's plans keep: between two calls nothing is under way; a closing has no buffer in hand until it frees, and a closing that frees does not say kept.
-use Prim.Native.Nat.{ℕ, zero, suc, _+_}
+use Prim.Native.Nat.{ℕ, zero, suc}
 use mathlib.Core.Bool.{Bool, true, false}
 use mathlib.Core.List.{List}
-use mathlib.Core.Path.{_≡_, refl, sym, subst}
+use mathlib.Core.Path.{_≡_}
 use lib.Dec.{eqb, ltb}
 use lib.ListN.{length}
 use Rattle.fields.specs.Outcome.{Outcome, value, refused, pick}
@@ -18,7 +18,6 @@ use Rattle.pci.specs.Views.{dwordOf}
 use Rattle.pci.specs.declared.DwordReply.{DwordReply}
 use Rattle.pci.specs.declared.DwordReply.the-variants as dw
 use Rattle.command.specs.Machine.{cmdStepOf}
-use Rattle.command.specs.declared.CmdEnd.{CmdEnd}
 use Rattle.command.specs.declared.CmdResult.{CmdResult}
 use Rattle.command.specs.declared.CmdStep.{CmdStep}
 use Rattle.command.specs.declared.CmdStep.the-variants as cs
@@ -29,11 +28,8 @@ use Rattle.reset.specs.declared.ResetEnd.{ResetEnd}
 use Rattle.reset.specs.declared.Ending.{Ending as ResetEnding}
 use Rattle.reset.specs.declared.Ending.the-variants as rg
 use Rattle.buffer.specs.Buffer.{byOutcome}
-use Rattle.buffer.specs.Steps.{startFree, makeStepOf, freeStepOf}
-use Rattle.buffer.specs.declared.Fault.{Fault}
 use Rattle.buffer.specs.declared.Made.{Made}
 use Rattle.buffer.specs.declared.Made.the-variants as m
-use Rattle.buffer.specs.declared.MakePhase.the-variants as mp
 use Rattle.tasks.specs.Parting.{partStepOf}
 use Rattle.tasks.specs.declared.PartingStep.{PartingStep}
 use Rattle.tasks.specs.declared.PartingStep.the-variants as ps
@@ -58,7 +54,7 @@ use Rattle.reply.specs.declared.FwInfo.{FwInfo}
 use Rattle.reply.specs.declared.FuncInfo.{FuncInfo}
 use Rattle.reply.specs.declared.PortInfo.{PortInfo}
 use Rattle.reply.specs.Capability.{capabilityOf}
-use Rattle.reply.specs.Replies.{queryFwOf, fwHeld, queryPortOf, queryFuncOf}
+use Rattle.reply.specs.Replies.{queryFwOf, queryPortOf, queryFuncOf}
 use Rattle.layout.specs.Counts.{profileOf}
 use Rattle.layout.specs.declared.Layout.{Layout}
 use Rattle.work.specs.Work.{workStepOf, taskStep, attrWork, claimWork, barOn, lookStep, cmdWork, partWork, resetOn}
@@ -68,7 +64,7 @@ use Rattle.work.specs.declared.Work.{Work}
 use Rattle.work.specs.declared.End.{End}
 use Rattle.work.specs.declared.Ending.{Ending}
 use Rattle.work.specs.declared.Ending.the-variants as e
-use Rattle.session.specs.Session.{session, tookOf, bookkeeps, informs}
+use Rattle.session.specs.Session.{session, tookOf}
 use Rattle.session.specs.declared.Hold.{Hold}
 use Rattle.session.specs.declared.Hold.the-variants as o
 use Rattle.session.specs.declared.Top.{Top}
@@ -92,13 +88,13 @@ use Rattle.session.specs.declared.Fill.the-variants as w
 use Rattle.session.specs.declared.Session.{Session}
 use Rattle.session.specs.declared.Planned.{Planned}
 use Rattle.closing.specs.Closing.{isDone, isHeld, UNDOS}
-use Rattle.closing.specs.Plan.{cmdIn, resetIn, onHold, freePlan, givenPlan, outboxPlan, inboxPlan, faPlan, auxPlan, icmPlan, lentPlan, givePlan, resetPlan, stoppedPlan, sendPlan, unmapFaPlan, unmapAuxPlan, unmapPlan, closeHcaPlan, undoSend, undoPlan, stopPlan, closesOf, wasReset, closePlanAt, closePlan}
+use Rattle.closing.specs.Plan.{cmdIn, resetIn, onHold, givenPlan, outboxPlan, inboxPlan, faPlan, auxPlan, icmPlan, lentPlan, stoppedPlan, unmapFaPlan, unmapAuxPlan, unmapPlan, closeHcaPlan, undoSend, undoPlan, stopPlan, closesOf, wasReset, closePlanAt, closePlan}
 use Rattle.opening.specs.Values.{needsReset}
-use Rattle.opening.specs.Opening.{portsOf, brokenBy}
+use Rattle.opening.specs.Opening.{portsOf}
 use Rattle.opening.specs.Plan as n
 use Rattle.opening.specs.Plan.{attrIn, claimIn, barIn, madeIn, failPlan, failByPlan, funcPlan, makePlan, nextRange, mappedPlan, mapPlan, areaPlan, layoutPlan, portPlan, fwReplied, capReplied, portReplied, funcReplied, bootPlanAt, bootPlan, preparePlanAt, preparePlan, listsAt, listsBoot, lists}
-use Rattle.fw.specs.Calls.{planOf, planAt, withWork, filled, filledList, begunOf, endedOf, stepTurn, stepOf}
-use Rattle.card_calls.proofs.Closing.{clean-differs}
+use Rattle.fw.specs.Calls.{planOf, withWork, filled, begunOf, stepTurn, stepOf}
+use Rattle.card_calls.proofs.Closing.{clean-differs, reset-differs}
 
 -- a task that asks nothing of the host
 abbrev pub NoHost : Task → Type 0
@@ -251,14 +247,6 @@ module _ (E : Type 0) (s : Session) (no : s .closing ≡ c.Kept → ⊥) (n : �
   lent-freed : (i : ℕ) → Frees E (lentPlan s i n)
   unfolding lentPlan
   lent-freed i = frees-pick E (ltb i (s .books .lists .lends)) _ _ (no, tt) (icm-freed 0)
-
-reset-differs : c.Reset ≡ c.Kept → ⊥
-reset-differs e = subst IsReset e tt
-  where
-    IsReset : Closing → Type 0
-    IsReset c.Clean = ⊥
-    IsReset c.Reset = Unit {0}
-    IsReset c.Kept = ⊥
 
 -- CLOSING
 stopped-suited : (s : Session) (n : ℕ) → Lawful (stoppedPlan s n)

@@ -1,7 +1,7 @@
 -- What the world is asked is what the course asks; and a task that asks nothing of the host leaves it as it is.
 use Prim.Native.Nat.{ℕ}
 use mathlib.Core.List.{List}
-use mathlib.Core.Option.{Option, some, none, Option·some-injective, Option·none-ne-some}
+use mathlib.Core.Option.{some, Option·some-injective, Option·none-ne-some}
 use mathlib.Core.Path.{_≡_, refl, sym, _∙_, ap, subst}
 use Rattle.hcr.proofs.Laws.{swap-swap}
 use Rattle.hcr.specs.declared.Post.{Post}

@@ -1,11 +1,10 @@
 -- A pending command that ends between two events changes nothing of what is known.
 use Prim.Native.Nat.{ℕ, zero, suc}
-use mathlib.Core.Bool.{Bool}
 use mathlib.Core.List.{List}
 use mathlib.Core.Logic.{_⊎_, inl, inr, ⊎-elim}
-use mathlib.Core.Option.{Option, some, none, Option·none-ne-some}
-use mathlib.Core.Path.{_≡_, refl, sym, _∙_, subst}
-use Rattle.pci.specs.Script.{Ask, Reply, Bus, good, failed, configRead16, configRead32, configWrite16, configWrite32, read, write, attributes, resource, stall, allocate, mapped, unmap, free, fence}
+use mathlib.Core.Option.{some, Option·none-ne-some}
+use mathlib.Core.Path.{_≡_, sym, _∙_}
+use Rattle.pci.specs.Script.{Ask, Reply, good, failed, configRead16, configRead32, configWrite16, configWrite32, read, write, attributes, resource, stall, allocate, mapped, unmap, free, fence}
 use Rattle.session.specs.Course.{Course, ret, ask}
 use Rattle.card.specs.Card.{Held, Command, Card, Kind, MapFa, UnmapFa, MapAux, UnmapAux, MapIcm, UnmapIcm, CloseHca, Other, kind, does, effect, Settles, same, ends, World, WorldStep, Holds, IsMap, Named, MayUse, Clear, Posts, Allowed}
 use Rattle.card_calls.specs.SafeCourse.{SafeCourse}

@@ -10,10 +10,11 @@
 --   card/specs/Owns.antt             `Owns`, `outs`, `backs`
 --   card_calls/specs/SafeCourse.antt `Typed`, `Lendable`: what is lent has its types' widths
 --   card_calls/specs/Ranges.antt     `OnRange`, `InRanges`, `AsLaid`
+--   card_calls/specs/Holding.antt    `Boxes`
 --   demand/specs/Events.antt         `Call`, `Event`, `Stand`, `Step`
 --   this file
 -- and of the code's definitions: session's `fresh`; fw's `openOf`, `closeOf`, `answerOf`, `asksOf`; pci's `replyOf`; closing's `lendsFrom`; opening's `rangeAt`.
-use Prim.Native.Nat.{ℕ, _<_}
+use Prim.Native.Nat.{ℕ}
 use mathlib.Core.List.{List, [], _∷_}
 use mathlib.Core.Logic.{_⊎_, _↔_}
 use mathlib.Core.Option.{Option, some, none}
@@ -24,34 +25,28 @@ use Rattle.session.specs.declared.Books.{Books}
 use Rattle.session.specs.declared.Info.{Info}
 use Rattle.session.specs.declared.Stage.{Stage}
 use Rattle.session.specs.declared.Stage.the-variants as g
-use Rattle.session.specs.declared.Failure.{Failure}
-use Rattle.session.specs.declared.Failure.the-variants as f
 use Rattle.session.specs.declared.Closing.{Closing}
 use Rattle.session.specs.declared.Closing.the-variants as c
-use Rattle.session.specs.declared.Session.{Session}
 use Rattle.closing.specs.Closing.{lendsFrom}
 use Rattle.fw.specs.Calls.{asksOf}
-use Rattle.card.specs.Card.{Card, Hold, Host, World, MayUse, Allowed}
+use Rattle.card.specs.Card.{Hold, Host, World, MayUse, Allowed}
 use Rattle.card.specs.Owns.{Owns, outs, backs}
 use Rattle.card_calls.specs.Ranges.{InRanges, AsLaid}
-use Rattle.demand.specs.Events.{Call, callOpen, callClose, callAnswer, Event, turn, asked, Stand, Step}
+use Rattle.card_calls.specs.Holding.{Boxes}
+use Rattle.demand.specs.Events.{Event, asked, Stand, Step}
 
--- (a) The question that an answer answers was one that a session may ask: see `Allowed`.
-abbrev pub QuestionBy : Failure → Call → Session → (inbox : List ℕ) → World → Type 0
-QuestionBy f.Nothing callOpen s i w = Unit {0}
-QuestionBy f.Nothing callClose s i w = Unit {0}
-QuestionBy f.Nothing (callAnswer a r) s i w = (y : Ask) → asked (asksOf s) i ≡ some y → Allowed i w y
-QuestionBy (f.By z) c s i w = Unit {0}
-
-abbrev pub QuestionKept : Stand → Event → Type 0
-QuestionKept x e = QuestionBy (turn (x .session) e .refusal) (e .call) (x .session) (e .inbox) (x .world)
+-- (a) The open question is one that a session may ask: see `Allowed`. "A page is given back by the question that frees it", so this is said before any answer.
+abbrev pub QuestionKept : Stand → Type 0
+QuestionKept x = (y : Ask) → asked (asksOf (x .session)) (x .inbox) ≡ some y → Allowed (x .inbox) (x .world) y
 
 -- (b)
-pub record Exact (n : Info) (b : Books) (k : Card) : Type 1 where
+pub record Exact (n : Info) (b : Books) (w : World) : Type 1 where
   pub fourteen : b .lists .ranges ≡ 14
   pub laid : AsLaid n b 14
-  pub icm : (x d : ℕ) → k .held .icm x d ↔ InRanges b x d
-  pub one : (x y d : ℕ) → k .held .icm x d → k .held .icm y d → x ≡ y
+  pub icm : (x d : ℕ) → w .card .held .icm x d ↔ InRanges b x d
+  pub one : (x y d : ℕ) → w .card .held .icm x d → w .card .held .icm y d → x ≡ y
+  -- what the rules take for the session's mailboxes are those of its books
+  pub boxes : Boxes b (w .host)
 
 -- (c) "every page handed over was given back exactly once for each handing over and the card may use none of them"; where nothing was handed over there is none
 pub record Returned (w : World) : Type 1 where
@@ -68,19 +63,20 @@ EndedBy base b w k c.Clean = Returned w
 EndedBy base b w k c.Reset = Returned w
 EndedBy base b w k c.Kept = Kept base b w k
 
--- while a call runs, and before the first, nothing more is said
+-- while a call runs, and before the first, nothing more is said than (a)
 pub record Nothing : Type 1 where
 
 abbrev pub GoodAt : (ℕ → Option Hold) → Stage → Stand → Type 1
 GoodAt base g.Fresh x = Nothing
-GoodAt base g.Open x = Exact (x .session .info) (x .session .books) (x .world .card)
+GoodAt base g.Open x = Exact (x .session .info) (x .session .books) (x .world)
 GoodAt base g.Ended x = EndedBy base (x .session .books) (x .world) (x .began) (x .session .closing)
 GoodAt base (g.Prepare y) x = Nothing
 GoodAt base (g.Boot y) x = Nothing
 GoodAt base (g.Close y) x = Nothing
 
-abbrev pub Good : (ℕ → Option Hold) → Stand → Type 1
-Good base x = GoodAt base (x .session .stage) x
+pub record Good (base : ℕ → Option Hold) (x : Stand) : Type 1 where
+  pub question : QuestionKept x
+  pub state : GoodAt base (x .session .stage) x
 
 -- A FRESH SESSION, on any card; the host may have handed out anything before, and none of it to this session
 pub record Start (x : Stand) : Type 1 where
@@ -92,7 +88,7 @@ pub record Start (x : Stand) : Type 1 where
 -- after each of the events, whatever the world does at each
 abbrev pub Always : (ℕ → Option Hold) → List Event → Stand → Type 1
 Always base [] x = Good base x
-Always base (e ∷ es) x = Good base x × ((y : Stand) → Step x e y → QuestionKept x e × Always base es y)
+Always base (e ∷ es) x = Good base x × ((y : Stand) → Step x e y → Always base es y)
 
 -- THE STATEMENT
 abbrev pub Demand : Type 1
