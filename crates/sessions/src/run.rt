@@ -233,6 +233,30 @@ fn come(p: Place, h: Head, body: &[u8], outbox: &mut [u8]) {
     fetch(open.kind, reply(p.taken, p.at, h, body), body, outbox);
 }
 
+// A fresh session is opened; no undo record is there.
+fn opening(state: &mut [u8], inbox: &mut [u8], outbox: &mut [u8]) -> Asked {
+    let mut out = [0u8; 40];
+    linkage::hca_fresh(state);
+    let code = linkage::hca_open(state, inbox, outbox, 0, 0, 0, 0, 0, &mut out);
+    asked::read(code, &out)
+}
+
+fn closing(t: Top, state: &mut [u8], inbox: &mut [u8], outbox: &mut [u8]) -> Asked {
+    let mut out = [0u8; 40];
+    let code = linkage::hca_close(
+        state,
+        inbox,
+        outbox,
+        t.count,
+        t.op,
+        t.op_mod,
+        t.in_mod,
+        t.in_param,
+        &mut out,
+    );
+    asked::read(code, &out)
+}
+
 // The session is opened, closed, or handed an answer: what it asks then.
 fn call(
     phase: u8,
@@ -244,27 +268,14 @@ fn call(
     inbox: &mut [u8],
     outbox: &mut [u8],
 ) -> Asked {
-    let mut out = [0u8; 40];
     if phase == Place::START {
-        linkage::hca_fresh(state);
-        let opened = linkage::hca_open(state, inbox, outbox, 0, 0, 0, 0, 0, &mut out);
-        return asked::read(opened, &out);
+        return opening(state, inbox, outbox);
     }
     if phase == Place::OPEN {
-        let closed = linkage::hca_close(
-            state,
-            inbox,
-            outbox,
-            t.count,
-            t.op,
-            t.op_mod,
-            t.in_mod,
-            t.in_param,
-            &mut out,
-        );
-        return asked::read(closed, &out);
+        return closing(t, state, inbox, outbox);
     }
-    let answered = linkage::hca_answer(
+    let mut out = [0u8; 40];
+    let code = linkage::hca_answer(
         state,
         kind,
         s.a,
@@ -279,7 +290,7 @@ fn call(
         t.in_param,
         &mut out,
     );
-    asked::read(answered, &out)
+    asked::read(code, &out)
 }
 
 // The next call: the open question is shown, and gets its answer.
