@@ -2,14 +2,14 @@
 //! worlds of one plan; every bus call with its arguments and its answer, the bytes of the inbox at each command, the
 //! results, the books of the open session, the mailboxes, and what host and card hold at the end must be the same.
 //!
-//! `over` is the session's bus over the world's, `glimpse` a card that shows GO once where it should not, `cases` what is
+//! `over` is the session's bus over the world's (of the package `station`), `glimpse` a card that shows GO once where it should not, `cases` what is
 //! run, `told` the session's results in the Rust's words, `beside` the comparison, `sample` the runs that the gate has, and
 //! `stored` their form.
 
 pub mod beside;
 pub mod cases;
 pub mod glimpse;
-pub mod over;
+pub use station::over;
 pub mod sample;
 pub mod stored;
 pub mod told;

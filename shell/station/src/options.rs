@@ -1,0 +1,119 @@
+//! The command line.
+
+use world::plan::{Behaviour, Fault, Which, NEVER};
+
+use crate::words::COMMANDS;
+
+pub const USAGE: &str = "\
+station [OPTIONS]
+
+Opens and closes a session on a simulated ConnectX-3 card, and prints its commands, the UAR BAR, the layout, the ranges
+that are mapped, and the results.
+
+  --seed N          a card, a host and faults by that seed, in place of a card that does as it is told
+  --fail N          bus call N, from 1, is reported failed and has no effect; stalls and fences are not counted
+  --fail N:taken    the same, and it has its effect all the same
+  --status OP=S     the command OP ends with status S
+  --timeout OP      the command OP never ends
+  --trace           every bus call, with its number, as it is made
+  --picture FILE    the layout with its mapped ranges as an SVG; FILE - is a picture of text
+  --help            this text
+
+OP is a name such as MAP_FA, or an opcode. Numbers are decimal, or hexadecimal after 0x. --fail, --status and --timeout
+may be given several times. The exit status is 0 if the session was opened and closed clean, 2 if an option is bad, else 1.
+";
+
+/// Where a picture goes.
+#[derive(Clone, PartialEq, Eq, Debug)]
+pub enum Picture {
+    Text,
+    Svg(String),
+}
+
+#[derive(Clone, Default, Debug)]
+pub struct Options {
+    pub seed: Option<u64>,
+    pub faults: Vec<Fault>,
+    /// The commands that end otherwise; the last one given for an opcode counts.
+    pub commands: Vec<(u16, Behaviour)>,
+    pub trace: bool,
+    pub picture: Option<Picture>,
+}
+
+impl Options {
+    /// The commands as a plan has them, where the first one that fits counts.
+    pub fn behaviours(&self) -> impl Iterator<Item = (Which, Behaviour)> + '_ {
+        self.commands.iter().rev().map(|(op, b)| (Which::Opcode(*op), *b))
+    }
+}
+
+/// What is asked for.
+#[derive(Clone, Debug)]
+pub enum Asked {
+    Help,
+    Session(Options),
+}
+
+/// Reads the arguments; one line that says what is wrong with them.
+pub fn parse(args: impl IntoIterator<Item = String>) -> Result<Asked, String> {
+    let mut options = Options::default();
+    let mut args = args.into_iter();
+    while let Some(arg) = args.next() {
+        let (name, with) = arg.split_once('=').map_or((arg.as_str(), None), |(n, v)| (n, Some(v.to_string())));
+        if with.is_some() && matches!(name, "--trace" | "--help") {
+            return Err(format!("{name} takes no value"));
+        }
+        let mut value = || with.clone().or_else(|| args.next()).ok_or_else(|| format!("{name} needs a value"));
+        match name {
+            "--help" | "-h" => return Ok(Asked::Help),
+            "--trace" => options.trace = true,
+            "--seed" => options.seed = Some(number(name, &value()?)?),
+            "--fail" => options.faults.push(fault(&value()?)?),
+            "--status" => options.commands.push(status(&value()?)?),
+            "--timeout" => options.commands.push((opcode(name, &value()?)?, Behaviour { polls: NEVER, status: 0 })),
+            "--picture" => options.picture = Some(picture(value()?)?),
+            _ => return Err(format!("no such option: {arg}")),
+        }
+    }
+    Ok(Asked::Session(options))
+}
+
+fn number(option: &str, text: &str) -> Result<u64, String> {
+    let parsed = match text.strip_prefix("0x") {
+        Some(digits) if !digits.starts_with('+') => u64::from_str_radix(digits, 16).ok(),
+        _ => text.parse().ok(),
+    };
+    parsed.ok_or_else(|| format!("{option}: not a number: {text}"))
+}
+
+fn fault(text: &str) -> Result<Fault, String> {
+    let (digits, taken) = match text.split_once(':') {
+        Some((digits, "taken")) => (digits, true),
+        Some((_, more)) => return Err(format!("--fail: only ':taken' may follow the number, not ':{more}'")),
+        None => (text, false),
+    };
+    let call = number("--fail", digits)?.checked_sub(1).ok_or("--fail: calls are counted from 1")?;
+    Ok(Fault { call, taken })
+}
+
+fn status(text: &str) -> Result<(u16, Behaviour), String> {
+    let (op, status) = text.split_once('=').ok_or_else(|| format!("--status: not OP=S: {text}"))?;
+    let status = u8::try_from(number("--status", status)?).map_err(|_| "--status: a status is below 256")?;
+    Ok((opcode("--status", op)?, Behaviour { polls: 1, status }))
+}
+
+fn opcode(option: &str, text: &str) -> Result<u16, String> {
+    if let Some((op, _)) = COMMANDS.iter().find(|(_, name)| name.eq_ignore_ascii_case(text)) {
+        return Ok(*op);
+    }
+    let op = number(option, text).map_err(|_| format!("{option}: no such command: {text}"))?;
+    u16::try_from(op).ok().filter(|op| *op < 0x1000).ok_or_else(|| format!("{option}: an opcode is below 0x1000"))
+}
+
+fn picture(file: String) -> Result<Picture, String> {
+    match file.as_str() {
+        "" => Err("--picture needs a value".into()),
+        "-" => Ok(Picture::Text),
+        _ => Ok(Picture::Svg(file)),
+    }
+}

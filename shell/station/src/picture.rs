@@ -1,0 +1,147 @@
+//! The layout as a picture: a bar for each table, in the order of their bases and each at its own scale, with the ranges
+//! that are mapped.
+
+use std::fmt::Write;
+
+use session::{Books, Setup, Table};
+use world::PAGE;
+
+use crate::words;
+
+/// A mapped part of a table: the bytes from its base on, and the pages behind them.
+struct Part {
+    from: u64,
+    to: u64,
+    pages: u64,
+}
+
+/// The mapped parts of a table.
+fn parts(t: &Table, b: &Books) -> Vec<Part> {
+    let of = |r: &session::Range| {
+        let from = r.virt.checked_sub(t.base).filter(|o| *o < t.bytes)?;
+        let to = from.saturating_add(r.buffer.pages.saturating_mul(PAGE)).min(t.bytes);
+        Some(Part { from, to, pages: r.buffer.pages })
+    };
+    b.ranges().iter().filter_map(of).collect()
+}
+
+/// Where `at` of `whole` lies on a bar of that length.
+fn place(at: u64, whole: u64, length: u64) -> u64 {
+    (u128::from(at) * u128::from(length) / u128::from(whole.max(1))) as u64
+}
+
+fn pages(all: &[Part]) -> u64 {
+    all.iter().map(|p| p.pages).sum()
+}
+
+fn mapped(all: &[Part]) -> String {
+    let ranges = if all.len() == 1 { String::new() } else { format!(" in {} ranges", all.len()) };
+    match pages(all) {
+        1 => format!("1 page mapped{ranges}"),
+        n => format!("{n} pages mapped{ranges}"),
+    }
+}
+
+/// All tables and all mapped ranges in one line.
+fn summary(s: &Setup, b: &Books) -> String {
+    let all: u64 = b.ranges().iter().map(|r| r.buffer.pages).sum();
+    let bytes = words::size(all.saturating_mul(PAGE));
+    let (tables, ranges) = (s.tables.len(), b.ranges().len());
+    format!(
+        "{tables} tables, {} of card addresses; {all} pages ({bytes}) mapped in {ranges} ranges",
+        words::size(s.total)
+    )
+}
+
+const CELLS: usize = 40;
+
+/// A picture of text.
+pub fn text(s: &Setup, b: &Books) -> String {
+    let mut all = format!("ICM layout: {}\n", summary(s, b));
+    for t in &s.tables {
+        let parts = parts(t, b);
+        let mut bar = ['.'; CELLS];
+        for p in &parts {
+            let from = place(p.from, t.bytes, CELLS as u64) as usize;
+            let to = place(p.to, t.bytes, CELLS as u64) as usize;
+            bar[from..to.max(from + 1).min(CELLS)].fill('#');
+        }
+        let (bar, size) = (String::from_iter(bar), words::size(t.bytes));
+        let _ = writeln!(all, "{:<6} {:>12x} |{bar}| {size:>9}, {}", words::table(t.index), t.base, mapped(&parts));
+    }
+    all + "each bar is one table at its own scale: # is mapped, . is not\n"
+}
+
+const WIDTH: u64 = 1000;
+const TOP: u64 = 96;
+const ROW: u64 = 52;
+/// The bars: left edge, length, height.
+const BAR: (u64, u64, u64) = (200, 480, 24);
+/// The text at the right of the bars.
+const RIGHT: u64 = 700;
+/// A range is drawn at least so wide.
+const LEAST: u64 = 4;
+
+const STYLE: &str = "text{font-family:sans-serif;font-size:13px;fill:#222}.h{font-size:18px;font-weight:bold}\
+.n{font-size:15px;font-weight:bold}.a{font-family:monospace}.t{fill:#eceff1;stroke:#78909c}.m{fill:#00796b}";
+
+/// A picture in SVG.
+pub fn svg(s: &Setup, b: &Books) -> String {
+    let height = TOP + ROW * s.tables.len() as u64 + 16;
+    let mut all = format!(
+        "<svg xmlns=\"http://www.w3.org/2000/svg\" width=\"{WIDTH}\" height=\"{height}\" \
+         viewBox=\"0 0 {WIDTH} {height}\" role=\"img\" aria-label=\"ICM layout\">\n<style>{STYLE}</style>\n\
+         <rect width=\"{WIDTH}\" height=\"{height}\" fill=\"#fff\"/>\n"
+    );
+    let _ = writeln!(all, "<text class=\"h\" x=\"24\" y=\"32\">ICM layout</text>");
+    let _ = writeln!(all, "<text x=\"24\" y=\"54\">{}</text>", summary(s, b));
+    all += &legend();
+    for (i, t) in s.tables.iter().enumerate() {
+        all += &row(t, &parts(t, b), TOP + ROW * i as u64);
+    }
+    all + "</svg>\n"
+}
+
+fn legend() -> String {
+    "<rect class=\"m\" x=\"24\" y=\"65\" width=\"14\" height=\"14\"/><text x=\"44\" y=\"77\">mapped</text>\n\
+     <rect class=\"t\" x=\"110\" y=\"65\" width=\"14\" height=\"14\"/>\
+     <text x=\"130\" y=\"77\">not mapped; each bar is one table at its own scale, from its base on</text>\n"
+        .into()
+}
+
+fn row(t: &Table, parts: &[Part], y: u64) -> String {
+    let (x, length, height) = BAR;
+    let name = words::table(t.index);
+    let mut all = format!(
+        "<text class=\"n\" x=\"24\" y=\"{}\">{name}</text><text x=\"24\" y=\"{}\">{} x {} B</text>\n\
+         <rect class=\"t\" x=\"{x}\" y=\"{}\" width=\"{length}\" height=\"{height}\"/>\n",
+        y + 18,
+        y + 36,
+        t.count,
+        t.entry,
+        y + 8
+    );
+    for p in parts {
+        let (from, to) = (place(p.from, t.bytes, length), place(p.to, t.bytes, length));
+        let from = from.min(length - LEAST);
+        let _ = writeln!(
+            all,
+            "<rect class=\"m\" x=\"{}\" y=\"{}\" width=\"{}\" height=\"{height}\"><title>{name}: {} pages from {:#x}</title></rect>",
+            x + from,
+            y + 8,
+            (to.max(from) - from).max(LEAST),
+            p.pages,
+            t.base.saturating_add(p.from)
+        );
+    }
+    let _ = writeln!(
+        all,
+        "<text class=\"a\" x=\"{RIGHT}\" y=\"{}\">{:#x}</text><text x=\"{RIGHT}\" y=\"{}\">{}, {}</text>",
+        y + 18,
+        t.base,
+        y + 36,
+        words::size(t.bytes),
+        mapped(parts)
+    );
+    all
+}

@@ -1,0 +1,190 @@
+//! The program: exit statuses, bad options, faults, a Timeout, and the picture.
+
+use std::process::{Command, Output};
+
+fn station(args: &[&str]) -> Output {
+    Command::new(env!("CARGO_BIN_EXE_station")).args(args).output().expect("the program runs")
+}
+
+/// Its exit status, and what it wrote.
+fn ran(args: &[&str]) -> (i32, String, String) {
+    let Output { status, stdout, stderr } = station(args);
+    let text = |bytes: Vec<u8>| String::from_utf8(bytes).expect("text");
+    (status.code().expect("an exit status"), text(stdout), text(stderr))
+}
+
+/// A run that ends with this status and says these things.
+fn says(args: &[&str], status: i32, what: &[&str]) -> String {
+    let (code, out, _) = ran(args);
+    assert_eq!(code, status, "{args:?}\n{out}");
+    what.iter().for_each(|w| assert!(out.contains(w), "{args:?}: {w}\n{out}"));
+    out
+}
+
+#[test]
+fn a_good_session() {
+    let what = [
+        "    1  QUERY_FW                 0        12  0x00 good\n",
+        "   24  QUERY_ADAPTER            0         3  0x00 good\n",
+        "result: open\n",
+        "UAR BAR: index 2, 8 MiB",
+        "  cMPT 64 67108864 100000000 0\n",
+        "  total 100121000\n",
+        "  QPC        100080000      64          40023000  h12\n",
+        "   41  UNMAP_FA                 0         3  0x00 good\n",
+        "closed: clean",
+        "held: nothing",
+    ];
+    let out = says(&[], 0, &what);
+    assert!(!out.contains("failed") && !out.contains("note"), "{out}");
+    assert_eq!(ran(&[]).2, "");
+}
+
+#[test]
+fn bad_options_are_one_line_and_2() {
+    let bad: [&[&str]; 22] = [
+        &["--nope"],
+        &["extra"],
+        &["--seed"],
+        &["--seed", "-1"],
+        &["--seed", "0x"],
+        &["--seed", "18446744073709551616"],
+        &["--fail"],
+        &["--fail", "0"],
+        &["--fail", "x"],
+        &["--fail", "3:later"],
+        &["--fail", ":taken"],
+        &["--status"],
+        &["--status", "MAP_FA"],
+        &["--status", "MAP_FA=256"],
+        &["--status", "MAP_FA="],
+        &["--status", "NOPE=1"],
+        &["--timeout"],
+        &["--timeout", "0x1000"],
+        &["--timeout", ""],
+        &["--trace=1"],
+        &["--picture"],
+        &["--picture", ""],
+    ];
+    for args in bad {
+        let (code, out, err) = ran(args);
+        assert_eq!((code, out.as_str()), (2, ""), "{args:?}");
+        assert!(err.starts_with("station: ") && err.lines().count() == 1, "{args:?}: {err}");
+    }
+}
+
+#[test]
+fn help_is_no_error() {
+    let (code, out, err) = ran(&["--help", "--nope"]);
+    assert_eq!((code, err.as_str()), (0, ""));
+    assert!(["--seed", "--fail", "--status", "--timeout", "--trace", "--picture"].iter().all(|o| out.contains(o)));
+}
+
+#[test]
+fn a_failing_call() {
+    says(&["--fail", "60"], 1, &["call 60 failed: map h2 1000 -> fail\n", "result: refused 5: ", "held: nothing"]);
+    says(&["--fail=1"], 1, &["call 1 failed: attr ", "result: refused 1: "]);
+    says(&["--fail", "99999"], 0, &["note: call 99999 was never made\n"]);
+    // The first write of GO: not taken, or taken and not waited for.
+    for fail in ["69", "69:taken"] {
+        let what = ["call 69 failed: regw 0 80698 ", "QUERY_FW                 0         0  none: the bus failed"];
+        says(&["--fail", fail], 1, &[&what[..], &["result: refused 9: ", "closed: by a reset"]].concat());
+    }
+}
+
+#[test]
+fn a_status() {
+    let refused = "result: refused 6: a command ended with status 0x08 (exceeds the device's limits) after 1 µs\n";
+    let out = says(&["--status", "INIT_HCA=8"], 1, &[refused, "closed: clean"]);
+    assert_eq!(says(&["--status=0x7=0x8"], 1, &[]), out);
+    assert_eq!(says(&["--status", "init_hca=1", "--status", "init_hca=8"], 1, &[]), out);
+    says(&["--status", "QUERY_FW=0x50"], 1, &["result: refused 10: "]);
+    says(&["--status", "CLOSE_HCA=1"], 1, &["result: open", "closed: by a reset of the card\n"]);
+    says(&["--status", "MOD_STAT_CFG=2"], 0, &["0x02 bad opcode"]);
+    says(&["--status", "QUERY_FUNC=2"], 0, &["note: QUERY_FUNC was never sent\n"]);
+}
+
+#[test]
+fn a_timeout_has_progress_in_simulated_time() {
+    let (code, out, err) = ran(&["--timeout", "RUN_FW"]);
+    assert_eq!(code, 1);
+    assert!(out.contains("RUN_FW                   0  60000000  never ended\n"), "{out}");
+    assert!(out.contains("result: refused 7: ") && out.contains("closed: by a reset"), "{out}");
+    let line = |s: u32| format!("RUN_FW: {s} s of 60 s waited, in simulated time\n");
+    assert_eq!(err, [10, 20, 30, 40, 50, 60].map(line).concat());
+    says(&["--timeout", "QUERY_ADAPTER"], 1, &["result: open", "never ended", "closed: by a reset"]);
+}
+
+#[test]
+fn a_trace_numbers_the_calls_and_folds_the_waits() {
+    let out = says(&["--trace", "--timeout", "RUN_FW"], 1, &["       1  attr ", "          free_pool 2\n"]);
+    let folded: Vec<&str> = out.lines().filter(|l| l.contains("  x")).collect();
+    assert!(folded.iter().any(|l| l.contains("x1000 regr 0 80698 -> ") && l.ends_with("; stall 1")), "{folded:?}");
+    assert!(folded.iter().any(|l| l.contains("x599990 regr") && l.ends_with("; stall 100")), "{folded:?}");
+    // The numbers are those of --fail.
+    let call = out.lines().find(|l| l.contains("map h2")).expect("a map");
+    assert!(call.starts_with("      60  map h2 1000 -> "), "{call}");
+}
+
+#[test]
+fn seeds_end_in_every_way_and_tell_the_same_twice() {
+    let mut statuses = [0; 3];
+    for seed in 0..60 {
+        let seed = seed.to_string();
+        let first = ran(&["--seed", &seed]);
+        assert!(first.1.contains("\nheld: ") && !first.1.contains("misuse"), "{}", first.1);
+        let well = first.1.contains("\nresult: open") && first.1.contains("\nclosed: clean");
+        assert_eq!(first.0 == 0, well, "{}", first.1);
+        statuses[usize::try_from(first.0).expect("0 or 1")] += 1;
+    }
+    assert!(statuses[0] > 5 && statuses[1] > 5 && statuses[2] == 0, "{statuses:?}");
+    assert_eq!(ran(&["--seed", "7"]), ran(&["--seed", "0x7"]));
+}
+
+/// The tags are balanced, and every attribute is quoted.
+fn well_formed(svg: &str) {
+    let mut open: Vec<&str> = Vec::new();
+    for part in svg.split('<').skip(1) {
+        let (tag, text) = part.split_once('>').expect("a tag ends");
+        assert!(!text.contains(['>', '&']), "{text}");
+        assert_eq!(tag.matches('"').count() % 2, 0, "{tag}");
+        let name = tag.trim_start_matches('/').split([' ', '/']).next().expect("a name");
+        match (tag.starts_with('/'), tag.ends_with('/')) {
+            (true, _) => assert_eq!(open.pop(), Some(name)),
+            (_, true) => {}
+            _ => open.push(name),
+        }
+    }
+    assert!(open.is_empty(), "{open:?}");
+}
+
+#[test]
+fn a_picture_as_svg() {
+    let file = std::env::temp_dir().join(format!("station-{}.svg", std::process::id()));
+    let name = file.to_str().expect("a name");
+    says(&["--picture", name], 0, &["closed: clean"]);
+    let svg = std::fs::read_to_string(&file).expect("the picture");
+    std::fs::remove_file(&file).expect("the picture");
+    assert!(svg.starts_with("<svg xmlns=\"http://www.w3.org/2000/svg\" ") && svg.ends_with("</svg>\n"));
+    well_formed(&svg);
+    assert!(world::results::NAMES.iter().all(|n| svg.contains(&format!(">{n}</text>"))));
+    // Eleven tables and a legend, fourteen ranges and a legend.
+    let count = |what: &str| svg.matches(what).count();
+    assert_eq!((count("<rect class=\"t\""), count("<rect class=\"m\""), count("<title>")), (12, 15, 14));
+}
+
+#[test]
+fn a_picture_of_text() {
+    let cmpt =
+        "cMPT              0 |#.........#.........#.........#.........|     4 GiB, 20 pages mapped in 4 ranges\n";
+    says(&["--picture", "-"], 0, &["ICM layout: 11 tables, 4 GiB", cmpt, "1 page mapped\n"]);
+}
+
+#[test]
+fn no_picture_without_a_session() {
+    let (code, _, err) = ran(&["--picture", "-", "--fail", "1"]);
+    assert_eq!((code, err.as_str()), (1, "station: no picture: the session was not opened\n"));
+    let (code, out, err) = ran(&["--picture", "/nowhere/at/all.svg"]);
+    assert_eq!(code, 1);
+    assert!(err.starts_with("station: /nowhere/at/all.svg: ") && out.contains("closed: clean"));
+}
