@@ -1,6 +1,7 @@
 //! What lies outside the Rust's domain: answers of the wrong kind (20), short slices (21), bad device addresses (18), and
 //! bytes that are no session. The definition alone decides there; a call that is refused changes nothing.
 
+use compare::sessions::answers::{good, suits, told};
 use compare::sessions::beside::{ours, rust, Ran};
 use compare::sessions::cases::{self, Case};
 use compare::sessions::over::Over;
@@ -44,30 +45,6 @@ fn refused(copies: &Copies, number: u32, what: &str, call: impl FnOnce(Lent) -> 
     let given = after.call(call);
     assert_eq!(given, number, "{what}");
     assert!(after == *copies, "{what}: something was changed");
-}
-
-fn told(kind: u32, a: u64, b: u64) -> Told<'static> {
-    Told { kind, a, b, resource: &[] }
-}
-
-/// An answer that suits a question; none where it is no question.
-fn good(q: Question) -> Option<Told<'static>> {
-    Some(match q {
-        Question::Finished => return None,
-        Question::ConfigRead16 { .. } => told(abi::WORD, 1, 0),
-        Question::ConfigRead32 { .. } | Question::RegisterRead { .. } => told(abi::DWORD, 1, 0),
-        Question::Attributes { .. } => told(abi::QWORD, 1, 0),
-        Question::Resource { .. } => told(abi::LIST, 0, 0),
-        Question::Allocate { .. } => told(abi::HANDLE, 1, 0),
-        Question::Map { bytes, .. } => told(abi::MAPPED, PAGE, bytes),
-        _ => told(abi::DONE, 0, 0),
-    })
-}
-
-/// Whether a kind of answer suits a question.
-fn suits(q: Question, kind: u32) -> bool {
-    let cannot_fail = matches!(q, Question::Stall { .. } | Question::Fence);
-    good(q).is_some_and(|t| t.kind == kind || kind == abi::FAILED && !cannot_fail)
 }
 
 /// Every kind that does not suit, and values that are too wide for theirs.

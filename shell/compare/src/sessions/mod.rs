@@ -4,8 +4,9 @@
 //!
 //! `over` is the session's bus over the world's (of the package `station`), `glimpse` a card that shows GO once where it should not, `cases` what is
 //! run, `told` the session's results in the Rust's words, `beside` the comparison, `sample` the runs that the gate has, and
-//! `stored` their form.
+//! `stored` their form; `answers` has the answers that suit a question.
 
+pub mod answers;
 pub mod beside;
 pub mod cases;
 pub mod glimpse;
