@@ -6,9 +6,10 @@
  * question is HCA_FINISHED. Then hca_result says what has become of the session.
  *
  * Every function gives 0, or the number of a refusal, and takes any bytes, lengths and numbers: HCA_WRONG (a call at the wrong time, an answer of the wrong kind, bytes
- * that are no session) or HCA_SHORT (a slice is too short, a mailbox has not HCA_MAILBOX bytes, more than HCA_UNDO_RECORDS undo records). HCA_WRONG goes before
- * HCA_SHORT. A call that is refused changes nothing: no lent byte, no session, no open question. A pointer may be null only where its length is 0. No slice may overlap
- * another. While a command is polled, hca_answer looks at the first 80 bytes of the session alone; damage behind them is found by the next answer that is not to a poll.
+ * that are no session) or HCA_SHORT (a slice is too short, a mailbox has not HCA_MAILBOX bytes, more than HCA_UNDO_RECORDS undo records); hca_fresh gives 0 or HCA_SHORT
+ * alone. HCA_WRONG goes before HCA_SHORT, except that fewer bytes than HCA_STATE are HCA_SHORT unless the answer is of no kind or its value too wide. A call that is
+ * refused changes nothing: no lent byte, no session, no open question. A pointer may be null only where its length is 0. No slice may overlap another. While a command is
+ * polled, hca_answer looks at the first 80 bytes of the session alone; damage behind them is found by the next answer that is not to a poll.
  *
  * All words are big-endian, of eight bytes. The first and the second good HCA_ALLOCATE of an opening are the pages that stand behind `inbox` and `outbox`.
  */

@@ -36,10 +36,7 @@ fn pages(all: &[Part]) -> u64 {
 
 fn mapped(all: &[Part]) -> String {
     let ranges = if all.len() == 1 { String::new() } else { format!(" in {} ranges", all.len()) };
-    match pages(all) {
-        1 => format!("1 page mapped{ranges}"),
-        n => format!("{n} pages mapped{ranges}"),
-    }
+    format!("{} mapped{ranges}", words::pages(pages(all)))
 }
 
 /// All tables and all mapped ranges in one line.
@@ -126,11 +123,11 @@ fn row(t: &Table, parts: &[Part], y: u64) -> String {
         let from = from.min(length - LEAST);
         let _ = writeln!(
             all,
-            "<rect class=\"m\" x=\"{}\" y=\"{}\" width=\"{}\" height=\"{height}\"><title>{name}: {} pages from {:#x}</title></rect>",
+            "<rect class=\"m\" x=\"{}\" y=\"{}\" width=\"{}\" height=\"{height}\"><title>{name}: {} from {:#x}</title></rect>",
             x + from,
             y + 8,
             (to.max(from) - from).max(LEAST),
-            p.pages,
+            words::pages(p.pages),
             t.base.saturating_add(p.from)
         );
     }

@@ -79,7 +79,7 @@ fn held_by_session(out: &mut impl Write, b: &Books) -> io::Result<()> {
     let ranges = b.ranges().iter().map(|r| ("ICM range", r.buffer));
     let lent = b.lent().iter().map(|l| ("lent", *l));
     for (name, Buffer { handle, address, pages }) in single.into_iter().flatten().chain(ranges).chain(lent) {
-        writeln!(out, "  {name}: h{handle}, {pages} pages at {address:x}")?;
+        writeln!(out, "  {name}: h{handle}, {} at {address:x}", words::pages(pages))?;
     }
     Ok(())
 }

@@ -105,6 +105,14 @@ pub fn how(h: How) -> &'static str {
     }
 }
 
+/// So many pages.
+pub fn pages(n: u64) -> String {
+    match n {
+        1 => "1 page".into(),
+        n => format!("{n} pages"),
+    }
+}
+
 /// Bytes in the largest unit of 1,024 that leaves one digit before the point.
 pub fn size(bytes: u64) -> String {
     let units = [(30, "GiB"), (20, "MiB"), (10, "KiB")];

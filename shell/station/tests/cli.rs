@@ -92,6 +92,18 @@ fn a_failing_call() {
     }
 }
 
+/// The reset of the closing fails, too: everything is kept.
+#[test]
+fn what_is_kept_is_told() {
+    let what = [
+        "result: refused 8: ",
+        "closed: the reset failed: ",
+        "held: 2 buffers by the session, 2 by the host's books; 0 blocks by the card\n",
+        "  inbox: h1, 1 page at ",
+    ];
+    says(&["--seed", "119"], 1, &what);
+}
+
 #[test]
 fn a_status() {
     let refused = "result: refused 6: a command ended with status 0x08 (exceeds the device's limits) after 1 µs\n";

@@ -53,18 +53,20 @@ impl Made {
             Piece::new(from, if odd && r.one_in(3) { any } else { usual }, guarded, fill)
         };
         let bytes = left.as_ref().unwrap_or(&stop.bytes);
+        let inbox = mailbox(r, &bytes.inbox, own);
+        let outbox = mailbox(r, &bytes.outbox, own);
         let told = any_answer(r, stop);
         let resource = resource(r);
         let mut made = Made {
             function,
             source,
             state: piece(&state, abi::STATE, r),
-            inbox: piece(&bytes.inbox, abi::MAILBOX, r),
-            outbox: piece(&bytes.outbox, abi::MAILBOX, r),
+            inbox: piece(&inbox, abi::MAILBOX, r),
+            outbox: piece(&outbox, abi::MAILBOX, r),
             out: piece(&[], function.out_bytes(), r),
             resource: Piece::new(&resource, resource.len(), guarded, fill),
             count: if odd { r.pick(&[0, 1, 255, 256, 257, 1 << 32, usize::MAX]) } else { r.pick(&[0, 1, 256]) },
-            top: Undo { op: r.next_u64() as u16, op_mod: 0, in_mod: r.next_u64() as u32, in_param: r.next_u64() },
+            top: undo(r),
             told,
             wrappers: own,
         };
@@ -165,13 +167,32 @@ fn state(r: &mut Prng, stop: &Stop, left: Option<Vec<u8>>) -> (Source, Vec<u8>) 
         8 => (Source::Fresh, fresh()),
         9..16 => (Source::Damaged, damaged(r, stop.bytes.state.clone())),
         16 => (Source::DamagedFresh, damaged(r, fresh())),
-        17 | 18 => (Source::Garbage, garbage(r)),
+        17 | 18 => (Source::Garbage, garbage(r, abi::STATE)),
         _ => (Source::Sparse, damaged(r, vec![0; abi::STATE])),
     }
 }
 
-fn garbage(r: &mut Prng) -> Vec<u8> {
-    (0..abi::STATE / 8).flat_map(|_| r.next_u64().to_be_bytes()).collect()
+fn garbage(r: &mut Prng, bytes: usize) -> Vec<u8> {
+    (0..bytes / 8).flat_map(|_| r.next_u64().to_be_bytes()).collect()
+}
+
+/// What a mailbox holds: every fourth anything, unless it is the wrapper's own call.
+fn mailbox(r: &mut Prng, from: &[u8], own: bool) -> Vec<u8> {
+    if !own && r.one_in(4) {
+        return garbage(r, abi::MAILBOX);
+    }
+    from.to_vec()
+}
+
+/// The newest undo record, half of them with an opcode that a command can have.
+fn undo(r: &mut Prng) -> Undo {
+    let op = r.next_u64() as u16;
+    Undo {
+        op: if r.one_in(2) { op & 0xfff } else { op },
+        op_mod: r.next_u64() as u8,
+        in_mod: r.next_u64() as u32,
+        in_param: r.next_u64(),
+    }
 }
 
 /// Bits, bytes and whole words are changed, up to eight of them; the first words more often.
@@ -213,10 +234,10 @@ fn any_answer(r: &mut Prng, stop: &Stop) -> [u64; 3] {
     }
 }
 
-/// A resource list of any length, now and then with the tag of one.
+/// A resource list of any length and bytes, half of them with the tag of one.
 fn resource(r: &mut Prng) -> Vec<u8> {
     let length = r.pick(&[0, 0, 1, 14, 45, 46, 47, 64, 400]);
-    let mut list: Vec<u8> = (0..length).map(|i: usize| i as u8).collect();
+    let mut list = r.bytes(length);
     if let Some(first) = list.first_mut().filter(|_| r.one_in(2)) {
         *first = 0x8a;
     }
