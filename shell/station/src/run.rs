@@ -21,6 +21,8 @@ use crate::words;
 /// The room for a resource list.
 const LIST: usize = 64;
 
+type Begin = fn(&mut Session, &mut UndoList) -> Result<Question, Refused>;
+
 struct Station<W> {
     out: W,
     bus: Traced<World>,
@@ -79,17 +81,10 @@ impl<W: Write> Station<W> {
         Ok(())
     }
 
-    fn open(&mut self) -> io::Result<Result<Outcome, Refused>> {
-        report::head(&mut self.out, "opening")?;
-        let first = self.session.begin_open(&mut self.undo);
-        let outcome = self.drive(first)?;
-        report::result(&mut self.out, outcome)?;
-        Ok(outcome)
-    }
-
-    fn close(&mut self) -> io::Result<Result<Outcome, Refused>> {
-        report::head(&mut self.out, "closing")?;
-        let first = self.session.begin_close(&mut self.undo);
+    /// One call from its beginning to its result.
+    fn call(&mut self, name: &str, begin: Begin) -> io::Result<Result<Outcome, Refused>> {
+        report::head(&mut self.out, name)?;
+        let first = begin(&mut self.session, &mut self.undo);
         let outcome = self.drive(first)?;
         report::result(&mut self.out, outcome)?;
         Ok(outcome)
@@ -130,11 +125,11 @@ pub fn run(options: &Options, out: impl Write) -> io::Result<bool> {
     let mut station = Station::new(options, out);
     let card = options.seed.map_or("that does as it is told".into(), |s| format!("of seed {s}"));
     writeln!(station.out, "a card {card}")?;
-    let opened = station.open()? == Ok(Outcome::Open);
+    let opened = station.call("opening", Session::begin_open)? == Ok(Outcome::Open);
     let (mut svg, mut clean) = (None, false);
     if opened {
         svg = station.tell(options.picture.as_ref())?;
-        clean = station.close()? == Ok(Outcome::Closed(Closing::Clean));
+        clean = station.call("closing", Session::begin_close)? == Ok(Outcome::Closed(Closing::Clean));
     }
     station.end(options)?;
     station.out.flush()?;

@@ -158,3 +158,39 @@ fn check(made: &Made, stop: &Stop, number: u32, figures: &mut Figures) -> Result
     }
     Ok(())
 }
+
+#[cfg(test)]
+mod tests {
+    use super::*;
+
+    /// A number other than the promised one, a byte written where none may be, and a state that is not the wrapper's.
+    #[test]
+    fn a_wrong_call_is_found() {
+        let mut r = Prng::new(8);
+        let pool = Pool::new(&mut r);
+        let mut found = [0; 3];
+        for _ in 0..3_000 {
+            let stop = pool.any(&mut r);
+            let mut made = Made::new(&mut r, stop, None);
+            let number = call(&mut made);
+            let wrong = |made: &Made, number: u32| check(made, stop, number, &mut Figures::default()).is_err();
+            assert!(!wrong(&made, number));
+            assert!(wrong(&made, 1) && wrong(&made, 22));
+            if made.whole() {
+                assert!([0, 20, 21].into_iter().all(|n| wrong(&made, n) != (n == number)));
+                found[0] += 1;
+            }
+            if made.wrappers && number == 0 {
+                made.state.lent()[r.below(abi::STATE as u64) as usize] ^= 1;
+                assert!(wrong(&made, number));
+                found[1] += 1;
+            }
+            if let Some(last) = made.resource.lent().last_mut() {
+                *last ^= 1;
+                assert!(wrong(&made, number));
+                found[2] += 1;
+            }
+        }
+        assert!(found.iter().all(|n| *n > 200), "{found:?}");
+    }
+}
