@@ -18,6 +18,7 @@ pub extern "C" fn hca_fresh(state: &mut [u8]) -> u32
     turns::fresh_bytes(state)
 }
 
+// Opens a session. The five numbers are the undo list: how many records it has, and the newest.
 #[no_mangle]
 pub extern "C" fn hca_open(
     state: &mut [u8],
@@ -46,6 +47,7 @@ pub extern "C" fn hca_open(
     turns::open_bytes(state, inbox, outbox, top, out)
 }
 
+// Closes a session.
 #[no_mangle]
 pub extern "C" fn hca_close(
     state: &mut [u8],
@@ -97,6 +99,7 @@ fn answer_told(
     }
 }
 
+// Answers the open question: the kind of the answer, two values, and the bytes of a resource list.
 #[no_mangle]
 pub extern "C" fn hca_answer(
     state: &mut [u8],

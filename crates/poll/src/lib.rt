@@ -26,6 +26,7 @@ pub enum Onward {
     Other,
 }
 
+// The command that is polled, from the first ten words of a session.
 fn poll_from(w: [u64; 10]) -> Poll
     ensures { λ r. ⌜ r ≡ pollOf w ⌝ }
 {
@@ -86,6 +87,7 @@ fn wait_on(stalls: u32, a: Answer) -> Onward
     }
 }
 
+// What an answer leads to, by what is polled.
 fn poll_on(p: Poll, a: Answer) -> Onward
     ensures { λ r. ⌜ r ≡ pollOn p a ⌝ }
 {

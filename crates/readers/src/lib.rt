@@ -15,6 +15,7 @@ const RESULT: usize = 40;
 
 const BOOKS: usize = 2240;
 
+// Each of them of a session that was read, where there is room for it.
 fn give_question(s: Session, out: &mut [u8]) -> u32
     ensures { λ r. ⌜ r ≡ c.questionKnown s (now (out .entry)) .code ⌝ }
     ensures { λ _. ⌜ now (out .exit) ≡ c.questionKnown s (now (out .entry)) .out ⌝ }

@@ -37,6 +37,7 @@ fn taken(t: Turn, state: &mut [u8], out: &mut [u8]) -> u32
     }
 }
 
+// Each call on a session that was read: 20 where it is not the time for it, then 21 where there is no room for what it says.
 fn open_of(
     s: Session,
     inbox: &mut [u8],
@@ -111,6 +112,7 @@ fn answer_of(
     WRONG
 }
 
+// Opens the session that the bytes hold.
 pub fn open_bytes(
     state: &mut [u8],
     inbox: &mut [u8],
@@ -134,6 +136,7 @@ pub fn open_bytes(
     }
 }
 
+// Closes the session that the bytes hold.
 pub fn close_bytes(
     state: &mut [u8],
     inbox: &mut [u8],
@@ -157,6 +160,7 @@ pub fn close_bytes(
     }
 }
 
+// Hands the session that the bytes hold the answer to its open question.
 pub fn answer_bytes(
     state: &mut [u8],
     a: Answer,
