@@ -24,6 +24,7 @@ use Rattle.command.specs.declared.CmdResult.the-variants as r
 use Rattle.buffer.specs.Buffer.{making}
 use Rattle.buffer.specs.declared.Made.{Made}
 use Rattle.buffer.specs.declared.Made.the-variants as m
+use Rattle.session.specs.Failures.{failureOf, faultOf}
 use Rattle.session.specs.Session.{wired, after, withInOf, bytesIn}
 use Rattle.session.specs.Course.{Course, Here, sends, Rest, atRest}
 use Rattle.session.specs.declared.Hold.the-variants as o
@@ -37,7 +38,7 @@ use Rattle.session.specs.declared.Failure.{Failure}
 use Rattle.session.specs.declared.Closing.{Closing}
 use Rattle.session.specs.declared.Closing.the-variants as c
 use Rattle.closing.specs.Closing.{lendsFrom}
-use Rattle.opening.specs.Values.{failureOf, faultOf, opFor, enters, cutterFor, rangeAt, withFa, withAux}
+use Rattle.opening.specs.Values.{opFor, enters, cutterFor, rangeAt, withFa, withAux}
 use Rattle.opening.specs.Opening.{fails, onGood, holds, onMade, mapping, areaFor}
 use Rattle.opening.proofs.Cutting.{behind-less}
 use Rattle.card.specs.Card.{Held, Card, Hold, Host, Meets, orElse, second, MayUse, World, mailAt}

@@ -12,6 +12,7 @@ use Rattle.pci.specs.declared.Refusal.{Refusal}
 use Rattle.command.specs.declared.CmdEnd.{CmdEnd}
 use Rattle.command.specs.declared.CmdResult.{CmdResult}
 use Rattle.command.specs.declared.CmdResult.the-variants as r
+use Rattle.session.specs.Failures.{brokenBy}
 use Rattle.session.specs.Session.{wired, after, endSeen, broken, deviceOf, immOf, withInOf, withOutOf}
 use Rattle.session.specs.Course.{Course, Here, sends, Rest, atRest}
 use Rattle.session.specs.declared.Wire.{Wire}
@@ -24,7 +25,7 @@ use Rattle.session.specs.declared.Closing.{Closing}
 use Rattle.session.specs.declared.Closing.the-variants as c
 use Rattle.closing.specs.Closing.{isDone, lendsFrom, emptied, stopping}
 use Rattle.opening.specs.Values.{refusalOf}
-use Rattle.opening.specs.Opening.{fails, brokenBy, onValue}
+use Rattle.opening.specs.Opening.{fails, onValue}
 use Rattle.card.specs.Card.{Held, Command, Card, Mail, Other, kind, IsMap, StandsAt, Hold, Host, World, mailAt}
 use Rattle.card.specs.Owns.{Owns}
 use Rattle.card.proofs.Command.{quiet-within, within-more, loose-within}

@@ -51,6 +51,7 @@ use Rattle.uar.specs.Uar.{finding}
 use Rattle.uar.specs.declared.Found.{Found}
 use Rattle.uar.specs.declared.Found.the-variants as u
 use Rattle.work.specs.Work.{looking}
+use Rattle.session.specs.Failures.{failureOf, faultOf, immediateOf, needsReset}
 use Rattle.session.specs.Session.{noBooks, noInfo, wired, after, endSeen, immOf, withInOf, withOutOf}
 use Rattle.session.specs.Course.{Here, inbox, outbox, zeroed, run, Rest, atRest}
 use Rattle.session.specs.declared.Hold.the-variants as o
@@ -64,7 +65,7 @@ use Rattle.session.specs.declared.Failure.the-variants as f
 use Rattle.session.specs.declared.Closing.{Closing}
 use Rattle.session.specs.declared.Closing.the-variants as c
 use Rattle.closing.specs.Closing.{lendsFrom, emptied, parted, restored}
-use Rattle.opening.specs.Values.{needsReset, failureOf, fwFailureOf, faultOf, immediateOf, layoutIn, rangeAt, noRange, withToggle, withCatas, withOriginal, withInbox, withOutbox, withFa, withAux, nowStarted, withUar, withRevision, withCap, withFunc, withPort}
+use Rattle.opening.specs.Values.{fwFailureOf, layoutIn, rangeAt, noRange, withToggle, withCatas, withOriginal, withInbox, withOutbox, withFa, withAux, nowStarted, withUar, withRevision, withCap, withFunc, withPort}
 use Rattle.opening.specs.Opening.{failsBy, onValue, holds, onMade, opened, queryAdapter, queryFunc, initHca, areaFor, mapIcm, setIcmSize, layingOut, queryPorts, portsOf, queryDevCap, modStat, runFw, fwReply, queryFw, look, giveInbox, makeOutbox, makeInbox, onFound, findUar, firstReset, onClaimed, claim, onEnabled, enable, opening}
 use Rattle.card.specs.Card.{Held, Card, Hold, Host, orElse, second, MayUse, World, mailAt}
 use Rattle.card.specs.Owns.{Owns, InBooks, spotOf}

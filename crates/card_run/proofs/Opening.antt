@@ -41,6 +41,7 @@ use Rattle.tasks.specs.Claim.{claiming}
 use Rattle.tasks.specs.declared.Claimed.the-variants as l
 use Rattle.uar.specs.Uar.{finding}
 use Rattle.work.specs.Work.{looking}
+use Rattle.session.specs.Failures.{brokenBy, faultOf, immediateOf, needsReset}
 use Rattle.session.specs.Session.{noBooks, noInfo, wired, after, catasFor, immOf, withInOf, withOutOf}
 use Rattle.session.specs.Course.{Course, ret, ask, Here, here, Lent, left, lent, Box, neither, inbox, outbox, zeroed, touched, run, task, sends, Rest}
 use Rattle.session.specs.declared.Top.{Top}
@@ -52,8 +53,8 @@ use Rattle.session.specs.declared.Stage.the-variants as g
 use Rattle.session.specs.declared.Failure.the-variants as f
 use Rattle.session.specs.declared.Closing.the-variants as c
 use Rattle.closing.specs.Closing.{isDone, parted}
-use Rattle.opening.specs.Values.{needsReset, faultOf, fwFailureOf, immediateOf, layoutIn, rangeAt, withToggle, withCatas, withInbox, withOutbox, withOriginal, nowStarted, opFor, enters, cutterFor, withUar, withRevision, withCap}
-use Rattle.opening.specs.Opening.{fails, failsBy, brokenBy, onGood, onValue, holds, onMade, opened, queryAdapter, queryFunc, initHca, mapping, areaFor, mapIcm, setIcmSize, layingOut, queryPorts, portsOf, queryDevCap, modStat, runFw, fwReply, queryFw, look, giveInbox, makeOutbox, makeInbox, onFound, findUar, firstReset, onClaimed, claim, onEnabled, enable, opening}
+use Rattle.opening.specs.Values.{fwFailureOf, layoutIn, rangeAt, withToggle, withCatas, withInbox, withOutbox, withOriginal, nowStarted, opFor, enters, cutterFor, withUar, withRevision, withCap}
+use Rattle.opening.specs.Opening.{fails, failsBy, onGood, onValue, holds, onMade, opened, queryAdapter, queryFunc, initHca, mapping, areaFor, mapIcm, setIcmSize, layingOut, queryPorts, portsOf, queryDevCap, modStat, runFw, fwReply, queryFw, look, giveInbox, makeOutbox, makeInbox, onFound, findUar, firstReset, onClaimed, claim, onEnabled, enable, opening}
 use Rattle.card.specs.Card.{Card, holds as holding, No, Host, World}
 use Rattle.card_calls.proofs.Courses.{untouched}
 use Rattle.card_calls.proofs.Areas.{pages-few}

@@ -1,4 +1,4 @@
--- A closing writes no mailbox byte: whatever step it comes to, nothing is to be written.
+-- A closing and a quiesce write no mailbox byte: whatever step it comes to, nothing is to be written.
 use Prim.Native.Nat.{ℕ, zero, suc}
 use mathlib.Core.Bool.{Bool, true, false}
 use mathlib.Core.Path.{_≡_, refl}
@@ -8,7 +8,7 @@ use Rattle.dma.specs.declared.Buffer.{Buffer}
 use Rattle.hcr.specs.Words.{isReserved}
 use Rattle.reset.specs.Reset.{isGood}
 use Rattle.work.specs.declared.End.{End}
-use Rattle.session.specs.Session.{tookOf}
+use Rattle.session.specs.Session.{tookOf, silencedOf}
 use Rattle.session.specs.declared.Hold.{Hold}
 use Rattle.session.specs.declared.Hold.the-variants as o
 use Rattle.session.specs.declared.Top.{Top}
@@ -20,7 +20,7 @@ use Rattle.session.specs.declared.Fill.the-variants as w
 use Rattle.session.specs.declared.Session.{Session}
 use Rattle.session.specs.declared.Planned.{Planned}
 use Rattle.closing.specs.Closing.{isDone, isHeld, UNDOS}
-use Rattle.closing.specs.Plan.{cmdIn, resetIn, onHold, closesOf, givenPlan, outboxPlan, inboxPlan, faPlan, auxPlan, icmPlan, lentPlan, givePlan, stoppedPlan, unmapFaPlan, unmapAuxPlan, unmapPlan, closeHcaPlan, undoSend, undoPlan, stopPlan, closePlan}
+use Rattle.closing.specs.Plan.{cmdIn, resetIn, onHold, closesOf, givenPlan, outboxPlan, inboxPlan, faPlan, auxPlan, icmPlan, lentPlan, givePlan, failedPlan, quiescePlan, stoppedPlan, unmapFaPlan, unmapAuxPlan, unmapPlan, closeHcaPlan, undoSend, undoPlan, stopPlan, closePlan}
 
 pick-fill : (b : Bool) (x y : Planned) → x .fill ≡ w.Nothing → y .fill ≡ w.Nothing → pick b x y .fill ≡ w.Nothing
 pick-fill true x y d e = d
@@ -57,9 +57,13 @@ lent-fill s i u = pick-fill (ltb i (s .books .lists .lends)) _ _ refl (icm-fill 
 give-fill : (s : Session) (c : Closing) (u : ℕ) → givePlan s c u .fill ≡ w.Nothing
 give-fill s c u = lent-fill (closesOf s c (s .books)) 0 u
 
+failed-fill : (s : Session) (u : ℕ) → failedPlan s u .fill ≡ w.Nothing
+unfolding failedPlan
+failed-fill s u = pick-fill (s .books .wire .silent) _ _ refl refl
+
 stopped-fill : (s : Session) (u : ℕ) → stoppedPlan s u .fill ≡ w.Nothing
 unfolding stoppedPlan
-stopped-fill s u = pick-fill (s .books .wire .running) _ _ refl (give-fill s c.Clean u)
+stopped-fill s u = pick-fill (s .books .wire .silent) _ _ refl (pick-fill (s .books .wire .running) _ _ refl (give-fill s c.Clean u))
 
 unmap-fa-fill : (s : Session) (u : ℕ) → unmapFaPlan s u .fill ≡ w.Nothing
 unfolding unmapFaPlan
@@ -79,8 +83,8 @@ unfolding closeHcaPlan
 close-hca-fill s u = pick-fill (s .books .started) _ _ refl (unmap-fill s (s .books .lists .ranges) u)
 
 send-fill : (s : Session) (m : ℕ) (u : Top) → undoSend s m u .fill ≡ w.Nothing
-send-fill s zero u = refl
-send-fill s (suc m) u = pick-fill (isReserved (u .op)) _ _ refl refl
+send-fill s zero u = failed-fill s (u .count)
+send-fill s (suc m) u = pick-fill (isReserved (u .op)) _ _ (failed-fill s (u .count)) refl
 
 undo-fill : (s : Session) (m : ℕ) (u : Top) → undoPlan s m u .fill ≡ w.Nothing
 unfolding undoPlan
@@ -90,13 +94,18 @@ pub stop-fill : (s : Session) (u : Top) → stopPlan s u .fill ≡ w.Nothing
 unfolding stopPlan
 stop-fill s u = pick-fill (s .books .wire .broken) _ _ refl (undo-fill s UNDOS u)
 
+pub quiesce-fill : (s : Session) (u : Top) → quiescePlan s u .fill ≡ w.Nothing
+unfolding quiescePlan
+quiesce-fill s u = pick-fill (s .books .wire .broken) _ _ refl (undo-fill (silencedOf s) UNDOS u)
+
 pub close-fill : (st : Close) (s : Session) (y : End) (u : Top) → closePlan s st y u .fill ≡ w.Nothing
 unfolding closePlan
-close-fill (k.Undo m) s y u = pick-fill (isDone (cmdIn y .result)) _ _ (undo-fill (tookOf s (cmdIn y)) m u) refl
-close-fill k.CloseHca s y u = pick-fill (isDone (cmdIn y .result)) _ _ (unmap-fill (tookOf s (cmdIn y)) (s .books .lists .ranges) (u .count)) refl
-close-fill (k.Unmap i) s y u = pick-fill (isDone (cmdIn y .result)) _ _ (unmap-fill (tookOf s (cmdIn y)) i (u .count)) refl
-close-fill k.UnmapAux s y u = pick-fill (isDone (cmdIn y .result)) _ _ (unmap-fa-fill (tookOf s (cmdIn y)) (u .count)) refl
-close-fill k.UnmapFa s y u = pick-fill (isDone (cmdIn y .result)) _ _ (stopped-fill (tookOf s (cmdIn y)) (u .count)) refl
+close-fill (k.Undo m) s y u = pick-fill (isDone (cmdIn y .result)) _ _ (undo-fill (tookOf s (cmdIn y)) m u) (failed-fill (tookOf s (cmdIn y)) (u .count))
+close-fill k.CloseHca s y u = pick-fill (isDone (cmdIn y .result)) _ _ (unmap-fill (tookOf s (cmdIn y)) (s .books .lists .ranges) (u .count)) (failed-fill (tookOf s (cmdIn y)) (u .count))
+close-fill (k.Unmap i) s y u = pick-fill (isDone (cmdIn y .result)) _ _ (unmap-fill (tookOf s (cmdIn y)) i (u .count)) (failed-fill (tookOf s (cmdIn y)) (u .count))
+close-fill k.UnmapAux s y u = pick-fill (isDone (cmdIn y .result)) _ _ (unmap-fa-fill (tookOf s (cmdIn y)) (u .count)) (failed-fill (tookOf s (cmdIn y)) (u .count))
+close-fill k.UnmapFa s y u = pick-fill (isDone (cmdIn y .result)) _ _ (stopped-fill (tookOf s (cmdIn y)) (u .count)) (failed-fill (tookOf s (cmdIn y)) (u .count))
+close-fill k.Quiesce s y u = refl
 close-fill k.Reset s y u = pick-fill (isGood (resetIn y)) _ _ (give-fill s c.Reset (u .count)) refl
 close-fill (k.FreeLent i) s y u = lent-fill s i (u .count)
 close-fill (k.FreeIcm i) s y u = icm-fill s i (u .count)

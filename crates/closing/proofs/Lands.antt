@@ -17,12 +17,12 @@ use Rattle.command.specs.Script.{command}
 use Rattle.reset.specs.Reset.{reset, isGood}
 use Rattle.reset.specs.Steps.{started, resetScript}
 use Rattle.buffer.specs.Steps.{startFree, freeScript}
-use Rattle.tasks.specs.Parting.{releasing, restoring, partScript}
+use Rattle.tasks.specs.Parting.{releasing, restoring, quieting, partScript}
 use Rattle.work.specs.declared.Task.the-variants as t
 use Rattle.work.specs.declared.End.{End}
 use Rattle.work.specs.declared.End.the-variants as e
 use Rattle.command.specs.declared.CmdEnd.{CmdEnd}
-use Rattle.session.specs.Session.{bufferAt, icmAt, bufferOf, immOf, catasFor, starts, tookOf, sendsOf, planned}
+use Rattle.session.specs.Session.{bufferAt, icmAt, bufferOf, immOf, catasFor, starts, tookOf, breaksOf, silencedOf, sendsOf, planned}
 use Rattle.session.specs.Course.{Course, ret, Here, here, left, Box, neither, run, sends, Rest, restOf}
 use Rattle.session.proofs.Courses.{run-turned, run-same}
 use Rattle.session.specs.declared.Hold.{Hold}
@@ -33,6 +33,7 @@ use Rattle.session.specs.declared.Stage.{Stage}
 use Rattle.session.specs.declared.Stage.the-variants as g
 use Rattle.session.specs.declared.Prepare.{Prepare}
 use Rattle.session.specs.declared.Boot.{Boot}
+use Rattle.session.specs.declared.Client.{Client}
 use Rattle.session.specs.declared.Close.{Close}
 use Rattle.session.specs.declared.Close.the-variants as k
 use Rattle.session.specs.declared.Closing.{Closing}
@@ -43,17 +44,18 @@ use Rattle.session.specs.declared.Session.{Session}
 use Rattle.session.specs.declared.Planned.{Planned}
 use Rattle.closing.specs.Closing.{isDone, isHeld, emptied, undoPost, popped, UNDOS, lendsFrom, rangesFrom, areas, inHold, boxes}
 use Rattle.closing.specs.Closing as q
-use Rattle.closing.specs.Plan.{cmdIn, resetIn, closesOf, resetsOf, restorePlan, releasePlan, freePlan, onHold, givenPlan, outboxPlan, inboxPlan, faPlan, auxPlan, icmPlan, lentPlan, givePlan, resetPlan, stoppedPlan, sendPlan, unmapFaPlan, unmapAuxPlan, unmapPlan, closeHcaPlan, undoSend, undoPlan, stopPlan, onwardPlan, wasReset, closePlan, afterClose, closeCourse, then, gone, planHere, tookBooks}
+use Rattle.closing.specs.Plan.{cmdIn, resetIn, closesOf, resetsOf, restorePlan, releasePlan, freePlan, onHold, givenPlan, outboxPlan, inboxPlan, faPlan, auxPlan, icmPlan, lentPlan, givePlan, resetPlan, quietPlan, failedPlan, quiescePlan, stoppedPlan, sendPlan, unmapFaPlan, unmapAuxPlan, unmapPlan, closeHcaPlan, undoSend, undoPlan, stopPlan, onwardPlan, wasReset, closePlan, afterClose, closeCourse, then, gone, planHere, tookBooks}
 
--- what the stages of an opening mean is left open
-module _ (P : Prepare → Session → Here → Course Rest) (B : Boot → Session → Here → Course Rest) where
+-- what the stages of an opening and of a client's call mean is left open
+module _ (P : Prepare → Session → Here → Course Rest) (B : Boot → Session → Here → Course Rest) (U : Client → Session → Here → Course Rest) where
   -- the course that is left in a session
   abbrev pub means : Stage → Session → Here → Course Rest
   means g.Fresh s h = ret (left h) (restOf s)
-  means g.Open s h = ret (left h) (restOf s)
+  means (g.Open x) s h = ret (left h) (restOf s)
   means g.Ended s h = ret (left h) (restOf s)
   means (g.Prepare x) s h = P x s h
   means (g.Boot x) s h = B x s h
+  means (g.Client x) s h = U x s h
   means (g.Close x) s h = closeCourse x s h
 
   -- and so is what is written to the mailboxes
@@ -154,9 +156,17 @@ module _ (P : Prepare → Session → Here → Course Rest) (B : Boot → Sessio
     unfolding q.resetting closeCourse
     reset-leads s h = run-turned neither (resetScript started) (λ x. e.Reset x) _ h
 
+    quiet-leads : (s : Session) (h : Here) → leads (quietPlan s (h .undo .count)) h ≡ q.quieted (s .info) (s .failure) (s .books) h
+    unfolding q.quieted closeCourse
+    quiet-leads s h = run-turned neither quieting (λ x. e.Parted) (afterClose k.Quiesce (closesOf (breaksOf s) c.Clean (breaksOf s .books))) h
+
+    failed-leads : (s : Session) (h : Here) → leads (failedPlan s (h .undo .count)) h ≡ q.failing (s .info) (s .failure) (s .books) h
+    unfolding q.failing failedPlan
+    failed-leads s h = pick-leads (s .books .wire .silent) _ _ h _ _ (quiet-leads s h) (reset-leads s h)
+
     stopped-leads : (s : Session) (h : Here) → leads (stoppedPlan s (h .undo .count)) h ≡ q.stopped (s .info) (s .failure) (s .books) h
     unfolding q.stopped stoppedPlan
-    stopped-leads s h = pick-leads (s .books .wire .running) _ _ h _ _ (reset-leads s h) (give-leads s c.Clean h)
+    stopped-leads s h = pick-leads (s .books .wire .silent) _ _ h _ _ (quiet-leads s h) (pick-leads (s .books .wire .running) _ _ h _ _ (reset-leads s h) (give-leads s c.Clean h))
 
     -- a command, and what follows a good one
     module _ (s : Session) (st : Close) (p : Post) (next : Books → Here → Course Rest) (a : (y : CmdEnd) (j : Here) → afterClose st (sendsOf s (g.Close st) p) (e.Cmd y) j ≡ then s (e.Cmd y) next j) where
@@ -193,24 +203,29 @@ module _ (P : Prepare → Session → Here → Course Rest) (B : Boot → Sessio
 
     undo-leads : (s : Session) (m : ℕ) (h : Here) → leads (undoPlan s m (h .undo)) h ≡ q.undoing (s .info) (s .failure) m (s .books) h
     unfolding q.undoing undoPlan
-    undo-leads s zero h = pick-leads (eqb (h .undo .count) 0) _ _ h _ _ (close-leads s h) (reset-leads s h)
+    undo-leads s zero h = pick-leads (eqb (h .undo .count) 0) _ _ h _ _ (close-leads s h) (failed-leads s h)
     undo-leads s (suc m) h =
         pick-leads (eqb (h .undo .count) 0) _ _ h _ _ (close-leads s h)
-        (pick-leads (isReserved (h .undo .op)) _ _ h _ _ (reset-leads s h)
+        (pick-leads (isReserved (h .undo .op)) _ _ h _ _ (failed-leads s h)
         (send-leads s (k.Undo m) (undoPost (h .undo)) (q.undoing (s .info) (s .failure) m) (λ y j. refl) h (h .undo .count - 1)))
 
     pub stop-leads : (s : Session) (h : Here) → leads (stopPlan s (h .undo)) h ≡ q.stopping (s .info) (s .failure) (s .books) h
     unfolding q.stopping stopPlan
     stop-leads s h = pick-leads (s .books .wire .broken) _ _ h _ _ (reset-leads s h) (undo-leads s UNDOS h)
 
+    pub quiesce-leads : (s : Session) (h : Here) → leads (quiescePlan s (h .undo)) h ≡ q.quiescing (s .info) (s .failure) (s .books) h
+    unfolding q.quiescing quiescePlan
+    quiesce-leads s h = pick-leads (s .books .wire .broken) _ _ h _ _ (quiet-leads (silencedOf s) h) (undo-leads (silencedOf s) UNDOS h)
+
     -- WHEN A TASK OF THE CLOSING HAS ENDED, the plan leads where the course goes on
     pub close-lands : (st : Close) (s : Session) (y : End) (h : Here) → leads (closePlan s st y (h .undo)) h ≡ afterClose st s y h
     unfolding closePlan
-    close-lands (k.Undo m) s y h = pick-leads (isDone (cmdIn y .result)) _ _ h _ _ (undo-leads (tookOf s (cmdIn y)) m h) (reset-leads (tookOf s (cmdIn y)) h)
-    close-lands k.CloseHca s y h = pick-leads (isDone (cmdIn y .result)) _ _ h _ _ (unmap-leads (tookOf s (cmdIn y)) (s .books .lists .ranges) h) (reset-leads (tookOf s (cmdIn y)) h)
-    close-lands (k.Unmap i) s y h = pick-leads (isDone (cmdIn y .result)) _ _ h _ _ (unmap-leads (tookOf s (cmdIn y)) i h) (reset-leads (tookOf s (cmdIn y)) h)
-    close-lands k.UnmapAux s y h = pick-leads (isDone (cmdIn y .result)) _ _ h _ _ (unmap-fa-leads (tookOf s (cmdIn y)) h) (reset-leads (tookOf s (cmdIn y)) h)
-    close-lands k.UnmapFa s y h = pick-leads (isDone (cmdIn y .result)) _ _ h _ _ (stopped-leads (tookOf s (cmdIn y)) h) (reset-leads (tookOf s (cmdIn y)) h)
+    close-lands (k.Undo m) s y h = pick-leads (isDone (cmdIn y .result)) _ _ h _ _ (undo-leads (tookOf s (cmdIn y)) m h) (failed-leads (tookOf s (cmdIn y)) h)
+    close-lands k.CloseHca s y h = pick-leads (isDone (cmdIn y .result)) _ _ h _ _ (unmap-leads (tookOf s (cmdIn y)) (s .books .lists .ranges) h) (failed-leads (tookOf s (cmdIn y)) h)
+    close-lands (k.Unmap i) s y h = pick-leads (isDone (cmdIn y .result)) _ _ h _ _ (unmap-leads (tookOf s (cmdIn y)) i h) (failed-leads (tookOf s (cmdIn y)) h)
+    close-lands k.UnmapAux s y h = pick-leads (isDone (cmdIn y .result)) _ _ h _ _ (unmap-fa-leads (tookOf s (cmdIn y)) h) (failed-leads (tookOf s (cmdIn y)) h)
+    close-lands k.UnmapFa s y h = pick-leads (isDone (cmdIn y .result)) _ _ h _ _ (stopped-leads (tookOf s (cmdIn y)) h) (failed-leads (tookOf s (cmdIn y)) h)
+    close-lands k.Quiesce s y h = refl
     close-lands k.Reset s y h = pick-leads (isGood (resetIn y)) _ _ h _ _ (give-leads s c.Reset h) (release-leads (closesOf s c.Kept (s .books)) h)
     close-lands (k.FreeLent i) s y h = lent-leads s i h
     close-lands (k.FreeIcm i) s y h = icm-leads s i h

@@ -25,7 +25,7 @@ done-seen (r.Bus us) d = d
 pub none-runs : (w : Wire) (x : CmdEnd) → isDone (x .result) ≡ true → after w x .running ≡ false
 none-runs w x d = rw (done-seen (x .result) d) refl
 
-pub no-reset-after-good : (n : Info) (f : Failure) (b : Books) (x : CmdEnd) (h : Here) → isDone (x .result) ≡ true
+pub no-reset-after-good : (n : Info) (f : Failure) (b : Books) (x : CmdEnd) (h : Here) → b .wire .silent ≡ false → isDone (x .result) ≡ true
     → stopped n f (wired b (after (b .wire) x)) h ≡ giving n f c.Clean (wired b (after (b .wire) x)) h
 unfolding stopped
-no-reset-after-good n f b x h d = rw (none-runs (b .wire) x d) refl
+no-reset-after-good n f b x h q d = rw (q, none-runs (b .wire) x d) refl

@@ -12,7 +12,7 @@ use Rattle.session.specs.declared.Close.the-variants as k
 use Rattle.session.specs.declared.Fill.the-variants as w
 use Rattle.session.specs.declared.Session.{Session}
 use Rattle.closing.specs.Closing.{undoPost, popped}
-use Rattle.closing.specs.Plan.{unmapPlan, unmapAuxPlan, sendPlan, undoSend, resetPlan}
+use Rattle.closing.specs.Plan.{unmapPlan, unmapAuxPlan, sendPlan, undoSend, failedPlan}
 
 pub unmap-none : (s : Session) (i u : ℕ) → i ≡ 0 → unmapPlan s i u ≡ unmapAuxPlan s u
 unfolding unmapPlan
@@ -26,12 +26,12 @@ unmap-more s zero u h = absurd (h refl)
 unmap-more s (suc i) u h =
     ap (λ (m : ℕ). sendPlan s (k.Unmap m) 0xff9 (icmAt (s .books .lists .icm) m .pages % 2 ^ 32) (icmAt (s .books .lists .icm) m .virt) u) (let e : i ≡ suc i - 1 = omega arith in e)
 
-pub undo-none : (s : Session) (m : ℕ) (u : Top) → m ≡ 0 → undoSend s m u ≡ resetPlan s (u .count)
+pub undo-none : (s : Session) (m : ℕ) (u : Top) → m ≡ 0 → undoSend s m u ≡ failedPlan s (u .count)
 undo-none s zero u h = refl
 undo-none s (suc m) u h = absurd (let g : suc m ≡ 0 = h in let z : ⊥ = omega arith in z)
 
 pub undo-more : (s : Session) (m : ℕ) (u : Top) → (m ≡ 0 → ⊥)
-    → undoSend s m u ≡ pick (isReserved (u .op)) (resetPlan s (u .count)) (planned (sendsOf s (g.Close (k.Undo (m - 1))) (undoPost u)) w.Nothing (popped u .count))
+    → undoSend s m u ≡ pick (isReserved (u .op)) (failedPlan s (u .count)) (planned (sendsOf s (g.Close (k.Undo (m - 1))) (undoPost u)) w.Nothing (popped u .count))
 undo-more s zero u h = absurd (h refl)
 undo-more s (suc m) u h =
-    ap (λ (j : ℕ). pick (isReserved (u .op)) (resetPlan s (u .count)) (planned (sendsOf s (g.Close (k.Undo j)) (undoPost u)) w.Nothing (popped u .count))) (let e : m ≡ suc m - 1 = omega arith in e)
+    ap (λ (j : ℕ). pick (isReserved (u .op)) (failedPlan s (u .count)) (planned (sendsOf s (g.Close (k.Undo j)) (undoPost u)) w.Nothing (popped u .count))) (let e : m ≡ suc m - 1 = omega arith in e)

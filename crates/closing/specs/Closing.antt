@@ -1,6 +1,6 @@
 -- Closing, as a course. Document 01: "Closing sends undo records newest first, CLOSE_HCA, UNMAP_ICM newest first, UNMAP_ICM_AUX, UNMAP_FA; if one fails, or the
 -- session is broken, it resets. It also resets where, by the card rules and the answers so far, the card could still use a page about to be freed. It then frees,
--- or keeps all if the reset failed. The result clean, reset or kept is added."
+-- or keeps all if the reset failed. The result clean, reset or kept is added." And quiesce, which sends the same commands, silent, and gives nothing back.
 use Prim.Native.Nat.{ℕ, zero, suc, _-_, _%_, _^_}
 use mathlib.Core.Bool.{Bool, true, false}
 use mathlib.Core.List.{List, [], _∷_, _++_}
@@ -15,8 +15,8 @@ use Rattle.command.specs.declared.CmdResult.{CmdResult}
 use Rattle.command.specs.declared.CmdResult.the-variants as r
 use Rattle.reset.specs.Reset.{reset, isGood}
 use Rattle.buffer.specs.Buffer.{freeing}
-use Rattle.tasks.specs.Parting.{releasing, restoring}
-use Rattle.session.specs.Session.{noBuffer, noIcm, wired, broken, books, bufferAt, icmAt, bufferOf, immOf}
+use Rattle.tasks.specs.Parting.{releasing, restoring, quieting}
+use Rattle.session.specs.Session.{noBuffer, noIcm, wired, broken, silent, books, bufferAt, icmAt, bufferOf, immOf}
 use Rattle.session.specs.Course.{Course, ret, Here, here, left, task, sends, Rest, atRest}
 use Rattle.session.specs.declared.Hold.{Hold}
 use Rattle.session.specs.declared.Hold.the-variants as o
@@ -24,6 +24,7 @@ use Rattle.session.specs.declared.Icm.{Icm}
 use Rattle.session.specs.declared.Top.{Top}
 use Rattle.session.specs.declared.Books.{Books}
 use Rattle.session.specs.declared.Info.{Info}
+use Rattle.session.specs.declared.Gave.the-variants as v
 use Rattle.session.specs.declared.Stage.the-variants as g
 use Rattle.session.specs.declared.Failure.{Failure}
 use Rattle.session.specs.declared.Closing.{Closing}
@@ -95,13 +96,20 @@ module _ (n : Info) (f : Failure) where
   unfoldable pub resetting : Books → Here → Course Rest
   resetting b h = task reset (λ e k. pick (isGood e) (giving c.Reset b k) (parted c.Kept b k)) h
 
+  -- the end of a quiesce: the session is broken, the owner register is cleared without the wait, and the bus master bit; nothing is freed, reset or restored
+  unfoldable pub quieted : Books → Here → Course Rest
+  quieted b h = task quieting (λ x k. ret (left k) (atRest (g.Open v.Nothing) (wired b (broken (b .wire))) n f c.Clean)) h
+
+  -- "if one fails .. it resets"; a quiesce, which is silent, ends
+  unfoldable pub failing : Books → Here → Course Rest
+  failing b h = pick (b .wire .silent) (quieted b h) (resetting b h)
+
   -- all commands were good, and none may still run
   unfoldable pub stopped : Books → Here → Course Rest
-  stopped b h = pick (b .wire .running) (resetting b h) (giving c.Clean b h)
+  stopped b h = pick (b .wire .silent) (quieted b h) (pick (b .wire .running) (resetting b h) (giving c.Clean b h))
 
-  -- "if one fails .. it resets"
   abbrev pub onward : (Books → Here → Course Rest) → CmdResult → Books → Here → Course Rest
-  onward k x b h = pick (isDone x) (k b h) (resetting b h)
+  onward k x b h = pick (isDone x) (k b h) (failing b h)
 
   unfoldable pub unmapFa : Books → Here → Course Rest
   unmapFa b h = pick (isHeld (b .held .fa)) (sends b (immOf 0xffe 0 0 0) (onward stopped) h) (stopped b h)
@@ -121,12 +129,16 @@ module _ (n : Info) (f : Failure) where
   -- the newest record of the list as it is lent then: "An undo record is taken off before its command is sent; one under 22 stays on, but .. counts as a failed
   -- undo command"
   unfoldable pub undoing : (more : ℕ) → Books → Here → Course Rest
-  undoing zero b h = pick (eqb (h .undo .count) 0) (closeHca b h) (resetting b h)
+  undoing zero b h = pick (eqb (h .undo .count) 0) (closeHca b h) (failing b h)
   undoing (suc k) b h =
       pick (eqb (h .undo .count) 0) (closeHca b h)
-      (pick (isReserved (h .undo .op)) (resetting b h)
+      (pick (isReserved (h .undo .op)) (failing b h)
       (sends b (undoPost (h .undo)) (onward (undoing k)) (here (h .inbox) (h .outbox) (popped (h .undo)))))
 
   -- CLOSING
   unfoldable pub stopping : Books → Here → Course Rest
   stopping b h = pick (b .wire .broken) (resetting b h) (undoing UNDOS b h)
+
+  -- QUIESCE: silent from here on
+  unfoldable pub quiescing : Books → Here → Course Rest
+  quiescing b h = pick (b .wire .broken) (quieted (wired b (silent (b .wire))) h) (undoing UNDOS (wired b (silent (b .wire))) h)

@@ -1,4 +1,4 @@
--- The plan of a closing: what follows when a task has ended, as a function on the session.
+-- The plan of a closing and of a quiesce: what follows when a task has ended, as a function on the session.
 use Prim.Native.Nat.{ℕ, zero, suc, _+_, _-_, _%_, _^_}
 use mathlib.Core.Bool.{Bool, true, false}
 use mathlib.Core.List.{List, _++_}
@@ -19,12 +19,14 @@ use Rattle.work.specs.declared.Task.{Task}
 use Rattle.work.specs.declared.Task.the-variants as t
 use Rattle.work.specs.declared.End.{End}
 use Rattle.work.specs.declared.End.the-variants as e
-use Rattle.session.specs.Session.{session, starts, sendsOf, tookOf, planned, bufferAt, icmAt, bufferOf, immOf, wired, after}
+use Rattle.session.specs.Session.{session, starts, sendsOf, tookOf, breaksOf, silencedOf, planned, bufferAt, icmAt, bufferOf, immOf, wired, after}
 use Rattle.session.specs.Course.{Course, ret, Here, here, left, task, Rest, restOf, atRest}
 use Rattle.session.specs.declared.Hold.{Hold}
 use Rattle.session.specs.declared.Hold.the-variants as o
 use Rattle.session.specs.declared.Top.{Top}
 use Rattle.session.specs.declared.Books.{Books}
+use Rattle.session.specs.declared.Gave.{Gave}
+use Rattle.session.specs.declared.Gave.the-variants as v
 use Rattle.session.specs.declared.Stage.{Stage}
 use Rattle.session.specs.declared.Stage.the-variants as g
 use Rattle.session.specs.declared.Close.{Close}
@@ -63,6 +65,10 @@ resetIn e.Parted = x.Save
 -- the session with nothing under way, ended
 abbrev pub endsOf : Session → Session
 endsOf s = starts s g.Ended t.Rest
+
+-- the session is open, with nothing under way
+abbrev pub restsOf : Session → Gave → Session
+restsOf s y = starts s (g.Open y) t.Rest
 
 abbrev pub closesOf : Session → Closing → Books → Session
 closesOf s c b = session (s .stage) (s .work) b (s .info) (s .failure) c
@@ -112,8 +118,15 @@ givePlan s c u = lentPlan (closesOf s c (s .books)) 0 u
 abbrev pub resetPlan : Session → ℕ → Planned
 resetPlan s u = planned (resetsOf s (g.Close k.Reset)) w.Nothing u
 
+-- a quiesce ends; and what follows a command that failed
+abbrev pub quietPlan : Session → ℕ → Planned
+quietPlan s u = planned (starts (closesOf (breaksOf s) c.Clean (breaksOf s .books)) (g.Close k.Quiesce) (t.Part p.Owner)) w.Nothing u
+
+unfoldable pub failedPlan : Session → ℕ → Planned
+failedPlan s u = pick (s .books .wire .silent) (quietPlan s u) (resetPlan s u)
+
 unfoldable pub stoppedPlan : Session → ℕ → Planned
-stoppedPlan s u = pick (s .books .wire .running) (resetPlan s u) (givePlan s c.Clean u)
+stoppedPlan s u = pick (s .books .wire .silent) (quietPlan s u) (pick (s .books .wire .running) (resetPlan s u) (givePlan s c.Clean u))
 
 abbrev pub sendPlan : Session → Close → (op inMod inParam : ℕ) → ℕ → Planned
 sendPlan s st op m x u = planned (sendsOf s (g.Close st) (immOf op 0 m x)) w.Nothing u
@@ -132,9 +145,9 @@ unfoldable pub closeHcaPlan : Session → ℕ → Planned
 closeHcaPlan s u = pick (s .books .started) (sendPlan s k.CloseHca 0x008 0 0 u) (unmapPlan s (s .books .lists .ranges) u)
 
 abbrev pub undoSend : Session → (more : ℕ) → Top → Planned
-undoSend s zero u = resetPlan s (u .count)
+undoSend s zero u = failedPlan s (u .count)
 undoSend s (suc m) u =
-    pick (isReserved (u .op)) (resetPlan s (u .count)) (planned (sendsOf s (g.Close (k.Undo m)) (undoPost u)) w.Nothing (popped u .count))
+    pick (isReserved (u .op)) (failedPlan s (u .count)) (planned (sendsOf s (g.Close (k.Undo m)) (undoPost u)) w.Nothing (popped u .count))
 
 unfoldable pub undoPlan : Session → (more : ℕ) → Top → Planned
 undoPlan s m u = pick (eqb (u .count) 0) (closeHcaPlan s (u .count)) (undoSend s m u)
@@ -142,7 +155,10 @@ undoPlan s m u = pick (eqb (u .count) 0) (closeHcaPlan s (u .count)) (undoSend s
 unfoldable pub stopPlan : Session → Top → Planned
 stopPlan s u = pick (s .books .wire .broken) (resetPlan s (u .count)) (undoPlan s UNDOS u)
 
--- a command of the closing has ended
+unfoldable pub quiescePlan : Session → Top → Planned
+quiescePlan s u = pick (s .books .wire .broken) (quietPlan (silencedOf s) (u .count)) (undoPlan (silencedOf s) UNDOS u)
+
+-- a command has ended
 abbrev pub onwardPlan : CmdEnd → Planned → Planned → Planned
 onwardPlan x next bad = pick (isDone (x .result)) next bad
 
@@ -150,12 +166,13 @@ abbrev pub wasReset : Session → ResetEnd → ℕ → Planned
 wasReset s x u = pick (isGood x) (givePlan s c.Reset u) (releasePlan (closesOf s c.Kept (s .books)) u)
 
 abbrev pub closePlanAt : Session → End → Top → Close → Planned
-closePlanAt s y u (k.Undo m) = onwardPlan (cmdIn y) (undoPlan (tookOf s (cmdIn y)) m u) (resetPlan (tookOf s (cmdIn y)) (u .count))
+closePlanAt s y u (k.Undo m) = onwardPlan (cmdIn y) (undoPlan (tookOf s (cmdIn y)) m u) (failedPlan (tookOf s (cmdIn y)) (u .count))
 closePlanAt s y u k.CloseHca =
-    onwardPlan (cmdIn y) (unmapPlan (tookOf s (cmdIn y)) (s .books .lists .ranges) (u .count)) (resetPlan (tookOf s (cmdIn y)) (u .count))
-closePlanAt s y u (k.Unmap i) = onwardPlan (cmdIn y) (unmapPlan (tookOf s (cmdIn y)) i (u .count)) (resetPlan (tookOf s (cmdIn y)) (u .count))
-closePlanAt s y u k.UnmapAux = onwardPlan (cmdIn y) (unmapFaPlan (tookOf s (cmdIn y)) (u .count)) (resetPlan (tookOf s (cmdIn y)) (u .count))
-closePlanAt s y u k.UnmapFa = onwardPlan (cmdIn y) (stoppedPlan (tookOf s (cmdIn y)) (u .count)) (resetPlan (tookOf s (cmdIn y)) (u .count))
+    onwardPlan (cmdIn y) (unmapPlan (tookOf s (cmdIn y)) (s .books .lists .ranges) (u .count)) (failedPlan (tookOf s (cmdIn y)) (u .count))
+closePlanAt s y u (k.Unmap i) = onwardPlan (cmdIn y) (unmapPlan (tookOf s (cmdIn y)) i (u .count)) (failedPlan (tookOf s (cmdIn y)) (u .count))
+closePlanAt s y u k.UnmapAux = onwardPlan (cmdIn y) (unmapFaPlan (tookOf s (cmdIn y)) (u .count)) (failedPlan (tookOf s (cmdIn y)) (u .count))
+closePlanAt s y u k.UnmapFa = onwardPlan (cmdIn y) (stoppedPlan (tookOf s (cmdIn y)) (u .count)) (failedPlan (tookOf s (cmdIn y)) (u .count))
+closePlanAt s y u k.Quiesce = planned (restsOf s v.Nothing) w.Nothing (u .count)
 closePlanAt s y u k.Reset = wasReset s (resetIn y) (u .count)
 closePlanAt s y u (k.FreeLent i) = lentPlan s i (u .count)
 closePlanAt s y u (k.FreeIcm i) = icmPlan s i (u .count)
@@ -185,6 +202,7 @@ afterClose k.CloseHca s y h = then s y (q.unmapping (s .info) (s .failure) (s .b
 afterClose (k.Unmap i) s y h = then s y (q.unmapping (s .info) (s .failure) i) h
 afterClose k.UnmapAux s y h = then s y (q.unmapFa (s .info) (s .failure)) h
 afterClose k.UnmapFa s y h = then s y (q.stopped (s .info) (s .failure)) h
+afterClose k.Quiesce s y h = ret (left h) (atRest (g.Open v.Nothing) (s .books) (s .info) (s .failure) (s .closing))
 afterClose k.Reset s y h =
     pick (isGood (resetIn y)) (q.giving (s .info) (s .failure) c.Reset (s .books) h) (q.parted (s .info) (s .failure) c.Kept (s .books) h)
 afterClose (k.FreeLent i) s y h = gone s (lendsFrom (s .books) i) h

@@ -1,4 +1,5 @@
-// Closing: what follows when one of its tasks has ended. Each function begins the next task, or passes on to the step behind it.
+// Closing and quiesce: what follows when one of their tasks has ended. Each function begins the next task, or passes on to the step behind it. Both send the same
+// commands; then a closing gives everything back, by a reset where one is needed, and a quiesce leaves the card to itself.
 use buffer::Freeing;
 use command::CmdEnd;
 use command::CmdResult;
@@ -10,6 +11,7 @@ use session::Books;
 use session::Close;
 use session::Closing;
 use session::Fill;
+use session::Gave;
 use session::Held;
 use session::Hold;
 use session::Lists;
@@ -32,7 +34,7 @@ ghost use Rattle.session.specs.declared.Close.the-variants.{Undo, CloseHca, Unm
 ghost use Rattle.closing.specs.Closing.{isDone, isHeld, emptied};
 ghost use Rattle.closing.specs.Plan.{cmdIn, resetIn, endsOf, closesOf, resetsOf, restorePlan, releasePlan, freePlan, givenPlan, outboxPlan, inboxPlan, faPlan, auxPlan};
 ghost use Rattle.closing.specs.Plan.{icmPlan, lentPlan, givePlan, resetPlan, stoppedPlan, sendPlan, unmapFaPlan, unmapAuxPlan, unmapPlan, closeHcaPlan};
-ghost use Rattle.closing.specs.Plan.{undoSend, undoPlan, stopPlan, onwardPlan, wasReset, closePlan};
+ghost use Rattle.closing.specs.Plan.{undoSend, undoPlan, stopPlan, onwardPlan, wasReset, closePlan, restsOf, quietPlan, failedPlan, quiescePlan};
 
 // How many undo records a closing sends at most.
 const UNDOS: u32 = 0xffff_ffff;
@@ -126,6 +128,13 @@ fn ends(s: Session) -> Session
     ensures { λ r. ⌜ r ≡ endsOf s ⌝ }
 {
     s.start(Stage::Ended, Task::Rest)
+}
+
+// The session is open, with nothing under way.
+pub fn rests(s: Session, gave: Gave) -> Session
+    ensures { λ r. ⌜ r ≡ restsOf s gave ⌝ }
+{
+    s.start(Stage::Open(gave), Task::Rest)
 }
 
 fn closes(s: Session, closing: Closing, books: Books) -> Session
@@ -296,12 +305,40 @@ fn reset(s: Session, undo: usize) -> Planned
     plan(resets(s, Stage::Close(Close::Reset)), undo)
 }
 
-// All commands were good: everything goes back, unless a command may still run.
+// A quiesce ends: the session is broken, and the card is left to itself.
+fn quiet(s: Session, undo: usize) -> Planned
+    ensures { λ r. ⌜ r ≡ quietPlan s undo ⌝ }
+{
+    let t = s.breaks();
+    let books = t.books;
+    let u = closes(t, Closing::Clean, books);
+    plan(
+        u.start(Stage::Close(Close::Quiesce), Task::Part(Parting::Owner)),
+        undo,
+    )
+}
+
+// A command failed: a closing resets, a quiesce ends.
+fn failed(s: Session, undo: usize) -> Planned
+    ensures { λ r. ⌜ r ≡ failedPlan s undo ⌝ }
+{
+    let books = s.books;
+    let wire = books.wire;
+    if wire.silent {
+        return quiet(s, undo);
+    }
+    reset(s, undo)
+}
+
+// All commands were good: everything goes back, unless a command may still run. A quiesce ends.
 fn stopped(s: Session, undo: usize) -> Planned
     ensures { λ r. ⌜ r ≡ stoppedPlan s undo ⌝ }
 {
     let books = s.books;
     let wire = books.wire;
+    if wire.silent {
+        return quiet(s, undo);
+    }
     if wire.running {
         return reset(s, undo);
     }
@@ -379,10 +416,10 @@ fn undo_one(s: Session, more: u32, top: Top) -> Planned
     ensures { λ r. ⌜ r ≡ undoSend s more top ⌝ }
 {
     if more == 0 {
-        return reset(s, top.count);
+        return failed(s, top.count);
     }
     if hcr::reserved(top.op) {
-        return reset(s, top.count);
+        return failed(s, top.count);
     }
     plan(
         s.send(
@@ -415,6 +452,18 @@ pub fn stop(s: Session, top: Top) -> Planned
     undo(s, UNDOS, top)
 }
 
+// A quiesce begins.
+pub fn quiesce(s: Session, top: Top) -> Planned
+    ensures { λ r. ⌜ r ≡ quiescePlan s top ⌝ }
+{
+    let books = s.books;
+    let wire = books.wire;
+    if wire.broken {
+        return quiet(s.silenced(), top.count);
+    }
+    undo(s.silenced(), UNDOS, top)
+}
+
 // What follows a reset: everything goes back, or is kept.
 fn was_reset(s: Session, end: ResetEnd, undo: usize) -> Planned
     ensures { λ r. ⌜ r ≡ wasReset s end undo ⌝ }
@@ -426,7 +475,7 @@ fn was_reset(s: Session, end: ResetEnd, undo: usize) -> Planned
     release(closes(s, Closing::Kept, books), undo)
 }
 
-// A command of the closing has ended: the next step follows a good one, a reset any other.
+// A command has ended: the next step follows a good one.
 fn undone(s: Session, more: u32, x: CmdEnd, top: Top) -> Planned
     ensures { λ r. ⌜ r ≡ closePlan s (Undo more) (Cmd x) top ⌝ }
 {
@@ -435,7 +484,7 @@ fn undone(s: Session, more: u32, x: CmdEnd, top: Top) -> Planned
     if is_done(result) {
         return undo(t, more, top);
     }
-    reset(t, top.count)
+    failed(t, top.count)
 }
 
 fn hca_closed(s: Session, x: CmdEnd, top: Top) -> Planned
@@ -448,7 +497,7 @@ fn hca_closed(s: Session, x: CmdEnd, top: Top) -> Planned
         let lists = books.lists;
         return unmap(t, lists.ranges, top.count);
     }
-    reset(t, top.count)
+    failed(t, top.count)
 }
 
 fn unmapped(s: Session, i: usize, x: CmdEnd, top: Top) -> Planned
@@ -459,7 +508,7 @@ fn unmapped(s: Session, i: usize, x: CmdEnd, top: Top) -> Planned
     if is_done(result) {
         return unmap(t, i, top.count);
     }
-    reset(t, top.count)
+    failed(t, top.count)
 }
 
 fn aux_unmapped(s: Session, x: CmdEnd, top: Top) -> Planned
@@ -470,7 +519,7 @@ fn aux_unmapped(s: Session, x: CmdEnd, top: Top) -> Planned
     if is_done(result) {
         return unmap_fa(t, top.count);
     }
-    reset(t, top.count)
+    failed(t, top.count)
 }
 
 fn fa_unmapped(s: Session, x: CmdEnd, top: Top) -> Planned
@@ -481,10 +530,10 @@ fn fa_unmapped(s: Session, x: CmdEnd, top: Top) -> Planned
     if is_done(result) {
         return stopped(t, top.count);
     }
-    reset(t, top.count)
+    failed(t, top.count)
 }
 
-// What follows when a task of the closing has ended.
+// What follows when a task of a closing or of a quiesce has ended.
 pub fn closed(s: Session, stage: Close, end: End, top: Top) -> Planned
     ensures { λ r. ⌜ r ≡ closePlan s stage end top ⌝ }
 {
@@ -494,6 +543,7 @@ pub fn closed(s: Session, stage: Close, end: End, top: Top) -> Planned
         Close::Unmap(i) => unmapped(s, i, cmd_in(end), top),
         Close::UnmapAux => aux_unmapped(s, cmd_in(end), top),
         Close::UnmapFa => fa_unmapped(s, cmd_in(end), top),
+        Close::Quiesce => plan(rests(s, Gave::Nothing), top.count),
         Close::Reset => was_reset(s, reset_in(end), top.count),
         Close::FreeLent(i) => free_lent(s, i, top.count),
         Close::FreeIcm(i) => free_icm(s, i, top.count),

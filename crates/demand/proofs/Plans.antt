@@ -64,6 +64,7 @@ use Rattle.work.specs.declared.Work.{Work}
 use Rattle.work.specs.declared.End.{End}
 use Rattle.work.specs.declared.Ending.{Ending}
 use Rattle.work.specs.declared.Ending.the-variants as e
+use Rattle.session.specs.Failures.{madeIn, needsReset}
 use Rattle.session.specs.Session.{session, tookOf}
 use Rattle.session.specs.declared.Hold.{Hold}
 use Rattle.session.specs.declared.Hold.the-variants as o
@@ -89,10 +90,9 @@ use Rattle.session.specs.declared.Session.{Session}
 use Rattle.session.specs.declared.Planned.{Planned}
 use Rattle.closing.specs.Closing.{isDone, isHeld, UNDOS}
 use Rattle.closing.specs.Plan.{cmdIn, resetIn, onHold, givenPlan, outboxPlan, inboxPlan, faPlan, auxPlan, icmPlan, lentPlan, stoppedPlan, unmapFaPlan, unmapAuxPlan, unmapPlan, closeHcaPlan, undoSend, undoPlan, stopPlan, closesOf, wasReset, closePlanAt, closePlan}
-use Rattle.opening.specs.Values.{needsReset}
 use Rattle.opening.specs.Opening.{portsOf}
 use Rattle.opening.specs.Plan as n
-use Rattle.opening.specs.Plan.{attrIn, claimIn, barIn, madeIn, failPlan, failByPlan, funcPlan, makePlan, nextRange, mappedPlan, mapPlan, areaPlan, layoutPlan, portPlan, fwReplied, capReplied, portReplied, funcReplied, bootPlanAt, bootPlan, preparePlanAt, preparePlan, listsAt, listsBoot, lists}
+use Rattle.opening.specs.Plan.{attrIn, claimIn, barIn, failPlan, failByPlan, funcPlan, makePlan, nextRange, mappedPlan, mapPlan, areaPlan, layoutPlan, portPlan, fwReplied, capReplied, portReplied, funcReplied, bootPlanAt, bootPlan, preparePlanAt, preparePlan, listsAt, listsBoot, lists}
 use Rattle.fw.specs.Calls.{planOf, withWork, filled, begunOf, stepTurn, stepOf}
 use Rattle.card_calls.proofs.Closing.{clean-differs, reset-differs}
 

@@ -55,6 +55,7 @@ use Rattle.work.specs.Work.{looking}
 use Rattle.work.specs.declared.Task.the-variants as t
 use Rattle.work.specs.declared.End.{End}
 use Rattle.work.specs.declared.End.the-variants as e
+use Rattle.session.specs.Failures.{brokenBy, failureOf, faultOf, immediateOf, madeIn, needsReset}
 use Rattle.session.specs.Session.{session, starts, bookkeeps, informs, sendsOf, tookOf, planned, immOf, withInOf, withOutOf, catasFor}
 use Rattle.session.specs.Course.{Course, ret, Here, here, left, Box, neither, inbox, outbox, zeroed, run, sends, Rest, restOf}
 use Rattle.session.proofs.Courses.{run-turned, run-same}
@@ -80,9 +81,9 @@ use Rattle.session.specs.declared.Planned.{Planned}
 use Rattle.closing.specs.Closing.{isDone, emptied, inHold, parted, restored, freed}
 use Rattle.closing.specs.Plan.{cmdIn, resetIn, resetsOf, restorePlan, releasePlan, stopPlan, tookBooks, onHold, planHere}
 use Rattle.closing.proofs.Lands as z
-use Rattle.opening.specs.Values.{refusalOf, faultOf, failureOf, needsReset, fwFailureOf, immediateOf, withToggle, withCatas, withOriginal, withInbox, withOutbox, nowStarted, layoutIn, rangeAt, opFor, enters, cutterFor, withUar, withRevision, withCap, withFunc, withPort}
-use Rattle.opening.specs.Opening.{fails, brokenBy, failsBy, onGood, onValue, asking, holds, opened, queryAdapter, queryFunc, initHca, mapping, onMade, mapIcm, areaFor, setIcmSize, layingOut, queryPorts, portsOf, queryDevCap, modStat, runFw, fwReply, queryFw, look, makeOutbox, giveInbox, makeInbox, onFound, findUar, firstReset, onClaimed, claim, onEnabled, enable, opening}
-use Rattle.opening.specs.Plan.{attrIn, claimIn, barIn, madeIn, toggleIn, withFailure, failPlan, givesUp, partPlan, failByPlan, openedPlan, askPlan, givePlan, immPlan, funcPlan, makePlan, rangePlan, nextRange, mappedPlan, mapPlan, areaPlan, layoutPlan, portPlan, goodPlan, fwReplied, capReplied, portReplied, funcReplied, fwPlan, statPlan, bootPlan, boxPlan, attrPlan, claimPlan, findsOf, resetPlan, barPlan, inboxPlan, givesInbox, outboxPlan, preparePlan, openPlan, lists, nextOf, afterBoot, bootCourse, afterPrepare, boxOf, prepareCourse}
+use Rattle.opening.specs.Values.{refusalOf, fwFailureOf, withToggle, withCatas, withOriginal, withInbox, withOutbox, nowStarted, layoutIn, rangeAt, opFor, enters, cutterFor, withUar, withRevision, withCap, withFunc, withPort}
+use Rattle.opening.specs.Opening.{fails, failsBy, onGood, onValue, asking, holds, opened, queryAdapter, queryFunc, initHca, mapping, onMade, mapIcm, areaFor, setIcmSize, layingOut, queryPorts, portsOf, queryDevCap, modStat, runFw, fwReply, queryFw, look, makeOutbox, giveInbox, makeInbox, onFound, findUar, firstReset, onClaimed, claim, onEnabled, enable, opening}
+use Rattle.opening.specs.Plan.{attrIn, claimIn, barIn, toggleIn, withFailure, failPlan, givesUp, partPlan, failByPlan, openedPlan, askPlan, givePlan, immPlan, funcPlan, makePlan, rangePlan, nextRange, mappedPlan, mapPlan, areaPlan, layoutPlan, portPlan, goodPlan, fwReplied, capReplied, portReplied, funcReplied, fwPlan, statPlan, bootPlan, boxPlan, attrPlan, claimPlan, findsOf, resetPlan, barPlan, inboxPlan, givesInbox, outboxPlan, preparePlan, openPlan, lists, nextOf, afterBoot, bootCourse, afterPrepare, boxOf, prepareCourse}
 use Rattle.opening.proofs.Cutting.{mapping-none, mapping-any, mapping-suc, onward-same, behind-less, positive}
 
 -- what the session means once a mailbox is written

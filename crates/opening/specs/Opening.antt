@@ -36,6 +36,7 @@ use Rattle.uar.specs.Uar.{finding}
 use Rattle.uar.specs.declared.Found.{Found}
 use Rattle.uar.specs.declared.Found.the-variants as u
 use Rattle.work.specs.Work.{looking}
+use Rattle.session.specs.Failures.{failureOf, faultOf, immediateOf, needsReset}
 use Rattle.session.specs.Session.{noBooks, noInfo, wired, broken, immOf, withInOf, withOutOf}
 use Rattle.session.specs.Course.{Course, ret, Here, here, left, Box, inbox, outbox, zeroed, run, task, sends, Rest, atRest}
 use Rattle.session.specs.declared.Books.{Books}
@@ -46,15 +47,11 @@ use Rattle.session.specs.declared.Stage.the-variants as g
 use Rattle.session.specs.declared.Failure.the-variants as f
 use Rattle.session.specs.declared.Closing.the-variants as c
 use Rattle.closing.specs.Closing.{isDone, inHold, emptied, stopping, parted, restored, freed}
-use Rattle.opening.specs.Values.{refusalOf, faultOf, failureOf, needsReset, fwFailureOf, immediateOf, withToggle, withCatas, withOriginal, withInbox, withOutbox, nowStarted, layoutIn, rangeAt, opFor, enters, cutterFor, withUar, withRevision, withCap, withFunc, withPort}
+use Rattle.opening.specs.Values.{refusalOf, fwFailureOf, withToggle, withCatas, withOriginal, withInbox, withOutbox, nowStarted, layoutIn, rangeAt, opFor, enters, cutterFor, withUar, withRevision, withCap, withFunc, withPort}
 
 -- FAILURES. The opening fails: closing runs
 abbrev pub fails : Refusal → Info → Books → Here → Course Rest
 fails y n b h = stopping n (f.By y) b h
-
--- a command failed: but for a status, the session is broken
-abbrev pub brokenBy : CmdResult → Books → Books
-brokenBy r b = pick (needsReset r) (wired b (broken (b .wire))) b
 
 abbrev pub failsBy : CmdResult → Info → Books → Here → Course Rest
 failsBy r n b h = fails (failureOf r) n (brokenBy r b) h

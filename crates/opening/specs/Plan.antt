@@ -48,6 +48,7 @@ use Rattle.work.specs.Work.{working, workScript}
 use Rattle.work.specs.declared.Task.the-variants as t
 use Rattle.work.specs.declared.End.{End}
 use Rattle.work.specs.declared.End.the-variants as e
+use Rattle.session.specs.Failures.{brokenBy, failureOf, faultOf, immediateOf, needsReset}
 use Rattle.session.specs.Session.{session, starts, bookkeeps, informs, sendsOf, tookOf, planned, immOf, withInOf, withOutOf}
 use Rattle.session.specs.Course.{Course, ret, Here, here, left, Box, neither, inbox, outbox, zeroed, run, Rest, atRest}
 use Rattle.session.specs.declared.Hold.the-variants as o
@@ -71,8 +72,8 @@ use Rattle.session.specs.declared.Session.{Session}
 use Rattle.session.specs.declared.Planned.{Planned}
 use Rattle.closing.specs.Closing.{isDone, emptied, parted}
 use Rattle.closing.specs.Plan.{cmdIn, resetIn, resetsOf, restorePlan, releasePlan, stopPlan, tookBooks, onHold}
-use Rattle.opening.specs.Values.{refusalOf, faultOf, failureOf, needsReset, fwFailureOf, immediateOf, withToggle, withCatas, withOriginal, withInbox, withOutbox, nowStarted, layoutIn, rangeAt, opFor, enters, cutterFor, withUar, withRevision, withCap, withFunc, withPort}
-use Rattle.opening.specs.Opening.{fails, brokenBy, failsBy, onGood, onValue, holds, opened, queryAdapter, queryFunc, initHca, mapping, onMade, mapIcm, areaFor, layingOut, queryPorts, portsOf, queryDevCap, modStat, runFw, fwReply, queryFw, look, makeOutbox, giveInbox, makeInbox, onFound, findUar, onClaimed, onEnabled}
+use Rattle.opening.specs.Values.{refusalOf, fwFailureOf, withToggle, withCatas, withOriginal, withInbox, withOutbox, nowStarted, layoutIn, rangeAt, opFor, enters, cutterFor, withUar, withRevision, withCap, withFunc, withPort}
+use Rattle.opening.specs.Opening.{fails, failsBy, onGood, onValue, holds, opened, queryAdapter, queryFunc, initHca, mapping, onMade, mapIcm, areaFor, layingOut, queryPorts, portsOf, queryDevCap, modStat, runFw, fwReply, queryFw, look, makeOutbox, giveInbox, makeInbox, onFound, findUar, onClaimed, onEnabled}
 
 -- HOW A TASK HAS ENDED; a task of the plan ends in its own kind, any other counts as failed
 abbrev pub attrIn : End → Attributes
@@ -107,20 +108,6 @@ barIn e.Freed = u.Refused
 barIn (e.Looked y) = u.Refused
 barIn (e.Cmd y) = u.Refused
 barIn e.Parted = u.Refused
-
-abbrev pub noMemory : Made
-noMemory = m.Refused q.Memory
-
-abbrev pub madeIn : End → Made
-madeIn (e.Made y) = y
-madeIn (e.Attr y) = m.Refused q.Memory
-madeIn (e.Claim y) = m.Refused q.Memory
-madeIn (e.Reset y) = m.Refused q.Memory
-madeIn (e.Bar y) = m.Refused q.Memory
-madeIn e.Freed = m.Refused q.Memory
-madeIn (e.Looked y) = m.Refused q.Memory
-madeIn (e.Cmd y) = m.Refused q.Memory
-madeIn e.Parted = m.Refused q.Memory
 
 abbrev pub toggleIn : End → Bool
 toggleIn (e.Looked y) = y

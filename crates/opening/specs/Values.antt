@@ -50,26 +50,6 @@ refusalOf n vs =
     (pick (eqb n 16) (x.Entry (first vs))
     (pick (eqb n 17) (x.Total (first vs)) x.Short))))))
 
--- a buffer that was not to be had: 5 or 18
-abbrev pub faultOf : Fault → Refusal
-faultOf f.Memory = x.Memory
-faultOf f.Address = x.Address
-
--- a command that was not good: 6, 7, 8 or 9, and whether the card needs a reset then, which every failure but a status says
-abbrev pub failureOf : CmdResult → Refusal
-failureOf (r.Done y us) = x.Bus us
-failureOf (r.Status s us) = x.Status s us
-failureOf (r.Timeout us) = x.Timeout us
-failureOf r.Busy = x.Busy
-failureOf (r.Bus us) = x.Bus us
-
-abbrev pub needsReset : CmdResult → Bool
-needsReset (r.Done y us) = false
-needsReset (r.Status s us) = false
-needsReset (r.Timeout us) = true
-needsReset r.Busy = true
-needsReset (r.Bus us) = true
-
 -- "10 QUERY_FW status 0x50 in an opening"
 abbrev pub statusRefusal : (s us : ℕ) → Refusal
 statusRefusal s us = pick (eqb s 0x50) x.NotPrimary (x.Status s us)
@@ -80,14 +60,6 @@ fwFailureOf (r.Status s us) = statusRefusal s us
 fwFailureOf (r.Timeout us) = x.Timeout us
 fwFailureOf r.Busy = x.Busy
 fwFailureOf (r.Bus us) = x.Bus us
-
--- the immediate of a good command
-abbrev pub immediateOf : CmdResult → ℕ
-immediateOf (r.Done y us) = y
-immediateOf (r.Status s us) = 0
-immediateOf (r.Timeout us) = 0
-immediateOf r.Busy = 0
-immediateOf (r.Bus us) = 0
 
 -- THE BOOKS
 abbrev pub withToggle : Books → Bool → Books

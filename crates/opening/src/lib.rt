@@ -64,10 +64,11 @@ ghost use Rattle.reply.specs.Capability.{capability};
 ghost use Rattle.reply.specs.Replies.{queryFw, queryPort, queryFunc};
 ghost use Rattle.layout.specs.Layout.{laid};
 ghost use Rattle.layout.specs.Counts.{profileOf};
+ghost use Rattle.session.specs.Failures.{brokenBy};
 ghost use Rattle.session.specs.Session.{bookkeeps, planned};
 ghost use Rattle.session.specs.declared.Area.the-variants.{Aux};
 ghost use Rattle.opening.specs.Values as v;
-ghost use Rattle.opening.specs.Opening.{brokenBy, portsOf};
+ghost use Rattle.opening.specs.Opening.{portsOf};
 ghost use Rattle.opening.specs.Plan as p;
 
 // How a task has ended; a plan's own tasks end in their own kind, and any other counts as failed.
@@ -119,28 +120,6 @@ fn bar_in(end: End) -> Found
     }
 }
 
-fn no_memory() -> Made
-    ensures { λ r. ⌜ r ≡ p.noMemory ⌝ }
-{
-    Made::Refused(Fault::Memory)
-}
-
-fn made_in(end: End) -> Made
-    ensures { λ r. ⌜ r ≡ p.madeIn end ⌝ }
-{
-    match end {
-        End::Made(x) => x,
-        End::Attr(_) => no_memory(),
-        End::Claim(_) => no_memory(),
-        End::Reset(_) => no_memory(),
-        End::Bar(_) => no_memory(),
-        End::Freed => no_memory(),
-        End::Looked(_) => no_memory(),
-        End::Cmd(_) => no_memory(),
-        End::Parted => no_memory(),
-    }
-}
-
 fn toggle_in(end: End) -> bool
     ensures { λ r. ⌜ r ≡ p.toggleIn end ⌝ }
 {
@@ -154,29 +133,6 @@ fn toggle_in(end: End) -> bool
         End::Freed => true,
         End::Cmd(_) => true,
         End::Parted => true,
-    }
-}
-
-// The refusal of a buffer that was not to be had: 5 or 18.
-fn fault_of(f: Fault) -> Refusal
-    ensures { λ r. ⌜ r ≡ v.faultOf f ⌝ }
-{
-    match f {
-        Fault::Memory => Refusal::Memory,
-        Fault::Address => Refusal::Address,
-    }
-}
-
-// The refusal of a command that was not good: 6 to 9.
-fn failure_of(r: CmdResult) -> Refusal
-    ensures { λ y. ⌜ y ≡ v.failureOf r ⌝ }
-{
-    match r {
-        CmdResult::Done(_, us) => Refusal::Bus(us),
-        CmdResult::Status(s, us) => Refusal::Status(s, us),
-        CmdResult::Timeout(us) => Refusal::Timeout(us),
-        CmdResult::Busy => Refusal::Busy,
-        CmdResult::Bus(us) => Refusal::Bus(us),
     }
 }
 
@@ -199,32 +155,6 @@ fn fw_failure_of(r: CmdResult) -> Refusal
         CmdResult::Timeout(us) => Refusal::Timeout(us),
         CmdResult::Busy => Refusal::Busy,
         CmdResult::Bus(us) => Refusal::Bus(us),
-    }
-}
-
-// After every failure but a status the card needs a reset.
-fn needs_reset(r: CmdResult) -> bool
-    ensures { λ y. ⌜ y ≡ v.needsReset r ⌝ }
-{
-    match r {
-        CmdResult::Done(_, _) => false,
-        CmdResult::Status(_, _) => false,
-        CmdResult::Timeout(_) => true,
-        CmdResult::Busy => true,
-        CmdResult::Bus(_) => true,
-    }
-}
-
-// The immediate of a good command.
-fn immediate(r: CmdResult) -> u64
-    ensures { λ y. ⌜ y ≡ v.immediateOf r ⌝ }
-{
-    match r {
-        CmdResult::Done(x, _) => x,
-        CmdResult::Status(_, _) => 0,
-        CmdResult::Timeout(_) => 0,
-        CmdResult::Busy => 0,
-        CmdResult::Bus(_) => 0,
     }
 }
 
@@ -472,20 +402,11 @@ fn part(s: Session, why: Refusal, books: Books, top: Top) -> Planned
     closing::release(gives_up(s, why, books), top.count)
 }
 
-fn broken_by(s: Session, r: CmdResult) -> Session
-    ensures { λ y. ⌜ y ≡ bookkeeps s (brokenBy r (s .books)) ⌝ }
-{
-    if needs_reset(r) {
-        return s.breaks();
-    }
-    s
-}
-
 // A command failed, and with it the opening.
 fn fail_by(s: Session, r: CmdResult, top: Top) -> Planned
     ensures { λ y. ⌜ y ≡ p.failByPlan s r top ⌝ }
 {
-    fail(broken_by(s, r), failure_of(r), top)
+    fail(s.broken_by(r), session::failure_of(r), top)
 }
 
 // The session is open.
@@ -627,7 +548,7 @@ fn made(s: Session, a: Area, y: Made, top: Top) -> Planned
             cutter_for(info, a, b),
             top,
         ),
-        Made::Refused(f) => fail(s, fault_of(f), top),
+        Made::Refused(f) => fail(s, session::fault_of(f), top),
     }
 }
 
@@ -742,7 +663,7 @@ fn fw_ended(s: Session, x: CmdEnd, outbox: &[u8], top: Top) -> Planned
     if closing::is_done(result) {
         return fw_replied(t, reply::query_fw(outbox, uar.index), top);
     }
-    fail(broken_by(t, result), fw_failure_of(result), top)
+    fail(t.broken_by(result), fw_failure_of(result), top)
 }
 
 fn map_ended(s: Session, a: Area, rest: Cutter, x: CmdEnd, top: Top) -> Planned
@@ -773,7 +694,7 @@ fn stat_ended(s: Session, x: CmdEnd, top: Top) -> Planned
 {
     let result = x.result;
     let t = s.took(x);
-    if needs_reset(result) {
+    if session::needs_reset(result) {
         return fail_by(t, result, top);
     }
     ask(t, Boot::DevCap, Op::QUERY_DEV_CAP, 0, top)
@@ -820,7 +741,7 @@ fn size_ended(s: Session, x: CmdEnd, top: Top) -> Planned
     let result = x.result;
     let t = s.took(x);
     if closing::is_done(result) {
-        return aux(t, immediate(result), top);
+        return aux(t, session::immediate(result), top);
     }
     fail_by(t, result, top)
 }
@@ -854,7 +775,7 @@ pub fn booted(s: Session, stage: Boot, end: End, outbox: &[u8], top: Top) -> Pla
 {
     match stage {
         Boot::QueryFw => fw_ended(s, closing::cmd_in(end), outbox, top),
-        Boot::Make(a) => made(s, a, made_in(end), top),
+        Boot::Make(a) => made(s, a, session::made_in(end), top),
         Boot::Map(a, rest) => map_ended(s, a, rest, closing::cmd_in(end), top),
         Boot::RunFw => run_ended(s, closing::cmd_in(end), top),
         Boot::ModStat => stat_ended(s, closing::cmd_in(end), top),
@@ -962,7 +883,7 @@ fn got_inbox(s: Session, y: Made, top: Top) -> Planned
     let books = s.books;
     match y {
         Made::Ready(b) => box_plan(s.with_books(with_inbox(books, b)), Prepare::Outbox, top),
-        Made::Refused(f) => part(s, fault_of(f), books, top),
+        Made::Refused(f) => part(s, session::fault_of(f), books, top),
     }
 }
 
@@ -974,7 +895,7 @@ fn gives_inbox(s: Session, f: Fault, top: Top) -> Planned
     let held = books.held;
     let hold = held.inbox;
     match hold {
-        Hold::Absent => part(s, fault_of(f), closing::emptied_books(books), top),
+        Hold::Absent => part(s, session::fault_of(f), closing::emptied_books(books), top),
         Hold::Held(b) => plan(
             s.start(
                 Stage::Prepare(Prepare::GiveInbox(f)),
@@ -1007,7 +928,7 @@ fn inbox_given(s: Session, f: Fault, top: Top) -> Planned
     ensures { λ r. ⌜ r ≡ p.inboxGiven s f top ⌝ }
 {
     let books = s.books;
-    part(s, fault_of(f), closing::emptied_books(books), top)
+    part(s, session::fault_of(f), closing::emptied_books(books), top)
 }
 
 // The first command.
@@ -1033,8 +954,8 @@ pub fn prepared(s: Session, stage: Prepare, end: End, top: Top) -> Planned
         Prepare::Claim => claimed(s, claim_in(end), top),
         Prepare::Reset => was_reset(s, closing::reset_in(end), top),
         Prepare::Bar => found(s, bar_in(end), top),
-        Prepare::Inbox => got_inbox(s, made_in(end), top),
-        Prepare::Outbox => got_outbox(s, made_in(end), top),
+        Prepare::Inbox => got_inbox(s, session::made_in(end), top),
+        Prepare::Outbox => got_outbox(s, session::made_in(end), top),
         Prepare::GiveInbox(f) => inbox_given(s, f, top),
         Prepare::Look => looked(s, toggle_in(end), top),
     }

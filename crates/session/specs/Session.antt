@@ -1,8 +1,9 @@
 -- The session's values: its books at the start, and how a step changes them.
-use Prim.Native.Nat.{ℕ, _*_, _%_, _^_}
+use Prim.Native.Nat.{ℕ, _+_, _*_, _%_, _^_}
 use mathlib.Core.Bool.{Bool, true, false, not}
 use mathlib.Core.List.{List}
-use lib.ListN.{getD, replicate}
+use lib.Dec.{ltb}
+use lib.ListN.{getD, set, replicate}
 use Rattle.fields.specs.Outcome.{pick}
 use Rattle.bars.specs.declared.Pick.{Pick}
 use Rattle.bars.specs.declared.Size.the-variants as z
@@ -124,6 +125,16 @@ after w e = record { toggle = e .toggle; running = not (endSeen (e .result)); br
 abbrev pub broken : Wire → Wire
 broken w = record { toggle = w .toggle; running = w .running; broken = true; silent = w .silent; catas = w .catas }
 
+-- a quiesce has begun
+abbrev pub silent : Wire → Wire
+silent w = record { toggle = w .toggle; running = w .running; broken = w .broken; silent = true; catas = w .catas }
+
+-- one lent buffer more; a full list stays as it is, and no call lends then: 19
+abbrev pub lentTo : Buffer → Books → Books
+lentTo x b =
+    pick (ltb (b .lists .lends) 64)
+    (listing b (record { icm = b .lists .icm; ranges = b .lists .ranges; lent = set (b .lists .lent) (b .lists .lends) x; lends = b .lists .lends + 1 })) b
+
 -- THE SESSION
 abbrev pub session : Stage → Work → Books → Info → Failure → Closing → Session
 session s w b n f c = record { stage = s; work = w; books = b; info = n; failure = f; closing = c }
@@ -148,6 +159,9 @@ tookOf s e = bookkeeps s (wired (s .books) (after (s .books .wire) e))
 
 abbrev pub breaksOf : Session → Session
 breaksOf s = bookkeeps s (wired (s .books) (broken (s .books .wire)))
+
+abbrev pub silencedOf : Session → Session
+silencedOf s = bookkeeps s (wired (s .books) (silent (s .books .wire)))
 
 abbrev pub planned : Session → Fill → ℕ → Planned
 planned s f n = record { session = s; fill = f; undo = n }

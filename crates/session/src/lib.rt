@@ -3,6 +3,7 @@ use bars::How;
 use bars::Pick;
 use bars::Size;
 use buffer::Fault;
+use buffer::Made;
 use command::Catas;
 use command::Cmd;
 use command::CmdEnd;
@@ -20,7 +21,8 @@ use work::Work;
 ghost use mathlib.Core.Path.{_≡_};
 ghost use Prim.Native.Nat.{_+_, _*_, _%_, _^_, _<_};
 ghost use Rattle.session.specs.Session.{noBooks, noInfo, fresh, starts, bookkeeps, informs, sendsOf, tookOf, catasFor, endSeen};
-ghost use Rattle.session.specs.Session.{immOf, withInOf, withOutOf, deviceOf, bufferOf, bufferAt, icmAt, bytesIn, breaksOf};
+ghost use Rattle.session.specs.Session.{immOf, withInOf, withOutOf, deviceOf, bufferOf, bufferAt, icmAt, bytesIn, breaksOf, silencedOf, lentTo};
+ghost use Rattle.session.specs.Failures.{faultOf, failureOf, needsReset, immediateOf, noMemory, madeIn, brokenBy};
 
 // A buffer that the session holds, or none.
 pub enum Hold {
@@ -36,8 +38,8 @@ pub struct Icm {
     pub pages: u64,
 }
 
-// How the command register stands: the toggle of the next command; whether a command may still run, its end not seen; whether the card can still be trusted
-// with commands; whether failures are told to nobody; and where the catastrophic buffer is.
+// How the command register stands: the toggle of the next command; whether a command may still run, its end not seen; whether the card can no longer be trusted
+// with commands; whether a quiesce has begun, from which on a Timeout is looked into no more; and where the catastrophic buffer is.
 pub struct Wire {
     pub toggle: bool,
     pub running: bool,
@@ -127,13 +129,14 @@ pub enum Boot {
 }
 
 // What the task under way is for, in a closing. `Undo` has how many more may be sent; the ranges below `Unmap` are still to be unmapped; lent buffers and ranges
-// from the number of `FreeLent` and `FreeIcm` on are still to be freed.
+// from the number of `FreeLent` and `FreeIcm` on are still to be freed. A quiesce sends the same commands, and ends with `Quiesce`.
 pub enum Close {
     Undo(u32),
     CloseHca,
     Unmap(usize),
     UnmapAux,
     UnmapFa,
+    Quiesce,
     Reset,
     FreeLent(usize),
     FreeIcm(usize),
@@ -145,13 +148,39 @@ pub enum Close {
     Restore,
 }
 
+// The five forms of a client's command: which mailboxes it names, and whether it gives an immediate.
+pub enum Form {
+    Imm,
+    WithIn,
+    WithOut,
+    InImm,
+    InOut,
+}
+
+// What the task under way is for, in a client's call on an open session: a command; a buffer to be lent; the newest undo record, while more than so many are on the
+// list, with how many more may be sent.
+pub enum Client {
+    Command(Form),
+    Lend,
+    UndoTo(usize, u32),
+}
+
+// What the last call on an open session gave: nothing; a command's immediate and the microseconds waited; the buffer that was lent; or why it failed.
+pub enum Gave {
+    Nothing,
+    Command(u64, u64),
+    Lent(Buffer),
+    Failed(Refusal),
+}
+
 // Before the opening, between calls, and after the end nothing is under way.
 pub enum Stage {
     Fresh,
-    Open,
+    Open(Gave),
     Ended,
     Prepare(Prepare),
     Boot(Boot),
+    Client(Client),
     Close(Close),
 }
 
@@ -365,6 +394,78 @@ pub fn bytes(b: Buffer) -> u64
     b.pages % 0x10_0000_0000_0000 * dma::PAGE
 }
 
+// The refusal of a buffer that was not to be had: 5 or 18.
+pub fn fault_of(f: Fault) -> Refusal
+    ensures { λ r. ⌜ r ≡ faultOf f ⌝ }
+{
+    match f {
+        Fault::Memory => Refusal::Memory,
+        Fault::Address => Refusal::Address,
+    }
+}
+
+// The refusal of a command that was not good: 6 to 9.
+pub fn failure_of(r: CmdResult) -> Refusal
+    ensures { λ y. ⌜ y ≡ failureOf r ⌝ }
+{
+    match r {
+        CmdResult::Done(_, us) => Refusal::Bus(us),
+        CmdResult::Status(s, us) => Refusal::Status(s, us),
+        CmdResult::Timeout(us) => Refusal::Timeout(us),
+        CmdResult::Busy => Refusal::Busy,
+        CmdResult::Bus(us) => Refusal::Bus(us),
+    }
+}
+
+// After every failure but a status the card needs a reset.
+pub fn needs_reset(r: CmdResult) -> bool
+    ensures { λ y. ⌜ y ≡ needsReset r ⌝ }
+{
+    match r {
+        CmdResult::Done(_, _) => false,
+        CmdResult::Status(_, _) => false,
+        CmdResult::Timeout(_) => true,
+        CmdResult::Busy => true,
+        CmdResult::Bus(_) => true,
+    }
+}
+
+// The immediate of a good command.
+pub fn immediate(r: CmdResult) -> u64
+    ensures { λ y. ⌜ y ≡ immediateOf r ⌝ }
+{
+    match r {
+        CmdResult::Done(x, _) => x,
+        CmdResult::Status(_, _) => 0,
+        CmdResult::Timeout(_) => 0,
+        CmdResult::Busy => 0,
+        CmdResult::Bus(_) => 0,
+    }
+}
+
+fn no_memory() -> Made
+    ensures { λ r. ⌜ r ≡ noMemory ⌝ }
+{
+    Made::Refused(Fault::Memory)
+}
+
+// How the making of a buffer has ended; a plan's own tasks end in their own kind, and any other counts as failed.
+pub fn made_in(end: End) -> Made
+    ensures { λ r. ⌜ r ≡ madeIn end ⌝ }
+{
+    match end {
+        End::Made(x) => x,
+        End::Attr(_) => no_memory(),
+        End::Claim(_) => no_memory(),
+        End::Reset(_) => no_memory(),
+        End::Bar(_) => no_memory(),
+        End::Freed => no_memory(),
+        End::Looked(_) => no_memory(),
+        End::Cmd(_) => no_memory(),
+        End::Parted => no_memory(),
+    }
+}
+
 // The buffer of a range.
 pub fn buffer_of(x: Icm) -> Buffer
     ensures { λ r. ⌜ r ≡ bufferOf x ⌝ }
@@ -457,5 +558,50 @@ impl Session {
         };
         let books = Books { wire, ..before };
         Session { books, ..self }
+    }
+
+    // But for a status, a command that failed breaks the session.
+    pub fn broken_by(self, r: CmdResult) -> Session
+        ensures { λ y. ⌜ y ≡ bookkeeps self (brokenBy r (self .books)) ⌝ }
+    {
+        if needs_reset(r) {
+            return self.breaks();
+        }
+        self
+    }
+
+    // A quiesce has begun.
+    pub fn silenced(self) -> Session
+        ensures { λ r. ⌜ r ≡ silencedOf self ⌝ }
+    {
+        let before = self.books;
+        let was = before.wire;
+        let wire = Wire {
+            silent: true,
+            ..was
+        };
+        let books = Books { wire, ..before };
+        Session { books, ..self }
+    }
+
+    // One lent buffer more; a full list stays as it is.
+    pub fn lends(self, b: Buffer) -> Session
+        ensures { λ r. ⌜ r ≡ bookkeeps self (lentTo b (self .books)) ⌝ }
+    {
+        let before = self.books;
+        let was = before.lists;
+        let n = was.lends;
+        if n < 64 {
+            let mut lent = was.lent;
+            lent[n] = b;
+            let lists = Lists {
+                lent,
+                lends: n + 1,
+                ..was
+            };
+            let books = Books { lists, ..before };
+            return Session { books, ..self };
+        }
+        self
     }
 }

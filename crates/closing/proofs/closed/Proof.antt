@@ -47,71 +47,82 @@ returns-6 : tie.Need-returns-6
 unfolding closePlan
 returns-6 c = simp (
   c .before .before .enum-told4 .given .1,
-  c .before .reset-in .ensures,
-  c .was-reset .ensures,
+  c .before .rests .ensures,
+  c .plan .ensures,
 )
 
 returns-7 : tie.Need-returns-7
 unfolding closePlan
 returns-7 c = simp (
-  c .before .before .stage3 .given .1,
-  c .free-lent .ensures,
+  c .before .before .enum-told5 .given .1,
+  c .before .reset-in .ensures,
+  c .was-reset .ensures,
 )
 
 returns-8 : tie.Need-returns-8
 unfolding closePlan
 returns-8 c = simp (
-  c .before .before .stage4 .given .1,
-  c .free-icm .ensures,
+  c .before .before .stage3 .given .1,
+  c .free-lent .ensures,
 )
 
 returns-9 : tie.Need-returns-9
 unfolding closePlan
 returns-9 c = simp (
-  c .before .enum-told5 .given .1,
-  c .free-fa .ensures,
+  c .before .before .stage4 .given .1,
+  c .free-icm .ensures,
 )
 
 returns-10 : tie.Need-returns-10
 unfolding closePlan
 returns-10 c = simp (
   c .before .enum-told6 .given .1,
-  c .free-inbox .ensures,
+  c .free-fa .ensures,
 )
 
 returns-11 : tie.Need-returns-11
 unfolding closePlan
 returns-11 c = simp (
   c .before .enum-told7 .given .1,
-  c .free-outbox .ensures,
+  c .free-inbox .ensures,
 )
 
 returns-12 : tie.Need-returns-12
 unfolding closePlan
 returns-12 c = simp (
   c .before .enum-told8 .given .1,
-  c .given .ensures,
+  c .free-outbox .ensures,
 )
 
 returns-13 : tie.Need-returns-13
 unfolding closePlan
 returns-13 c = simp (
   c .before .enum-told9 .given .1,
-  c .restore .ensures,
+  c .given .ensures,
 )
 
 returns-14 : tie.Need-returns-14
 unfolding closePlan
 returns-14 c = simp (
-  c .before .before .enum-told10 .given .1,
+  c .before .enum-told10 .given .1,
+  c .restore .ensures,
+)
+
+returns-15 : tie.Need-returns-15
+unfolding closePlan
+returns-15 c = simp (
+  c .before .before .enum-told11 .given .1,
   c .before .ends .ensures,
-  c .plan .ensures,
+  c .plan2 .ensures,
 )
 
 pub closed-spec : {M : Type 1} → statement M
 closed-spec =
     tie.close
     (tie.spec
+    (λ c. search needs)
+    (λ c κs. search needs)
+    (λ c κs. search needs)
     (λ c. search needs)
     (λ c κs. search needs)
     (λ c κs. search needs)
@@ -160,4 +171,5 @@ closed-spec =
     returns-11
     returns-12
     returns-13
-    returns-14)
+    returns-14
+    returns-15)

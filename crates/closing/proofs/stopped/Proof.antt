@@ -7,13 +7,22 @@ returns : tie.Need-returns
 unfolding stoppedPlan
 returns c = simp (
   c .before .if1 .taken,
-  c .reset .ensures,
+  c .quiet .ensures,
 )
 
 returns-2 : tie.Need-returns-2
 unfolding stoppedPlan
 returns-2 c = simp (
-  c .before .if1 .left,
+  c .before .before .if1 .left,
+  c .before .if2 .taken,
+  c .reset .ensures,
+)
+
+returns-3 : tie.Need-returns-3
+unfolding stoppedPlan
+returns-3 c = simp (
+  c .before .before .if1 .left,
+  c .before .if2 .left,
   c .give .ensures,
 )
 
@@ -24,4 +33,6 @@ stopped-spec =
     (λ c κs. search needs)
     returns
     (λ c κs. search needs)
-    returns-2)
+    returns-2
+    (λ c κs. search needs)
+    returns-3)

@@ -6,7 +6,7 @@ use Rattle.closing.proofs.undo_one.Tie as tie
 returns : tie.Need-returns
 returns c = let p = c .before .before .args in simp (
   undo-none (p .s) (p .more) (p .top) (c .before .if1 .taken),
-  c .reset .ensures,
+  c .failed .ensures,
 )
 
 returns-2 : tie.Need-returns-2
@@ -14,7 +14,7 @@ returns-2 c = let p = c .before .before .before .before .args in simp (
   undo-more (p .s) (p .more) (p .top) (c .before .before .before .if1 .left),
   ← (c .before .before .reserved .ensures),
   c .before .if2 .taken,
-  c .reset2 .ensures,
+  c .failed2 .ensures,
 )
 
 returns-3 : tie.Need-returns-3

@@ -1,6 +1,6 @@
 use borrow.Author.Needs.{needs}
-use Rattle.opening.proofs.broken_by.Statement.{statement}
-use Rattle.opening.proofs.broken_by.Tie as tie
+use Rattle.session.proofs.Session.broken_by.Statement.{statement}
+use Rattle.session.proofs.Session.broken_by.Tie as tie
 
 returns : tie.Need-returns
 returns c = simp (

@@ -1,6 +1,6 @@
 use borrow.Author.Needs.{needs}
-use Rattle.opening.proofs.failure_of.Statement.{statement}
-use Rattle.opening.proofs.failure_of.Tie as tie
+use Rattle.session.proofs.failure_of.Statement.{statement}
+use Rattle.session.proofs.failure_of.Tie as tie
 
 returns : tie.Need-returns
 returns c = simp (c .before .r .given .1)

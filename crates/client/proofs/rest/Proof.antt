@@ -1,0 +1,13 @@
+use borrow.Author.Needs.{needs}
+use Rattle.client.proofs.rest.Statement.{statement}
+use Rattle.client.proofs.rest.Tie as tie
+
+returns : tie.Need-returns
+returns c = simp (c .rests .ensures)
+
+pub rest-spec : {M : Type 1} → statement M
+rest-spec =
+    tie.close
+    (tie.spec
+    (λ c κs. search needs)
+    returns)

@@ -1,0 +1,44 @@
+use borrow.Author.Needs.{needs}
+use Rattle.client.proofs.Steps.{undo-none, undo-more}
+use Rattle.client.proofs.undo_one.Statement.{statement}
+use Rattle.client.proofs.undo_one.Tie as tie
+
+returns : tie.Need-returns
+returns c = let p = c .before .before .before .args in simp (
+  undo-none (p .s) (p .mark) (p .more) (p .top) (c .before .before .if1 .taken),
+  c .before .breaks .ensures,
+  c .rest .ensures,
+)
+
+returns-2 : tie.Need-returns-2
+returns-2 c = let p = c .before .before .before .before .args in simp (
+  undo-more (p .s) (p .mark) (p .more) (p .top) (c .before .before .before .if1 .left),
+  ← (c .before .before .reserved .ensures),
+  c .before .if2 .taken,
+  c .rest2 .ensures,
+)
+
+returns-3 : tie.Need-returns-3
+returns-3 c = let p = c .before .before .before .before .before .before .args in simp (
+  undo-more (p .s) (p .mark) (p .more) (p .top) (c .before .before .before .before .before .if1 .left),
+  ← (c .before .before .before .before .reserved .ensures),
+  c .before .before .before .if2 .left,
+  c .before .before .imm .ensures,
+  c .before .send .ensures,
+)
+
+pub undo-one-spec : {M : Type 1} → statement M
+undo-one-spec =
+    tie.close
+    (tie.spec
+    (λ c κs. search needs)
+    (λ c κs. search needs)
+    returns
+    (λ c κs. search needs)
+    (λ c κs. search needs)
+    returns-2
+    (λ c. search needs)
+    (λ c κs. search needs)
+    (λ c κs. search needs)
+    (λ c. search needs)
+    returns-3)

@@ -1,0 +1,32 @@
+use borrow.Author.Needs.{needs}
+use Rattle.client.proofs.undone.Statement.{statement}
+use Rattle.client.proofs.undone.Tie as tie
+
+returns : tie.Need-returns
+returns c = simp (
+  c .before .before .before .took .ensures,
+  ← (c .before .before .is-done .ensures),
+  c .before .if1 .taken,
+  c .undo .ensures,
+)
+
+returns-2 : tie.Need-returns-2
+returns-2 c = simp (
+  c .before .before .before .before .took .ensures,
+  ← (c .before .before .before .is-done .ensures),
+  c .before .before .if1 .left,
+  c .before .breaks .ensures,
+  c .rest .ensures,
+)
+
+pub undone-spec : {M : Type 1} → statement M
+undone-spec =
+    tie.close
+    (tie.spec
+    (λ c κs. search needs)
+    (λ c κs. search needs)
+    (λ c κs. search needs)
+    returns
+    (λ c κs. search needs)
+    (λ c κs. search needs)
+    returns-2)

@@ -1,0 +1,290 @@
+// A client's calls on an open session: how each begins, and what follows when one of its tasks has ended.
+use buffer::Made;
+use buffer::MakeStep;
+use buffer::Making;
+use command::CmdEnd;
+use command::CmdResult;
+use hcr::Post;
+use pci::Refusal;
+use session::Client;
+use session::Fill;
+use session::Form;
+use session::Gave;
+use session::Held;
+use session::Planned;
+use session::Session;
+use session::Stage;
+use session::Top;
+use work::End;
+use work::Task;
+ghost use mathlib.Core.Path.{_≡_};
+ghost use Prim.Native.Nat.{_<_};
+ghost use Rattle.session.specs.Session.{planned};
+ghost use Rattle.session.specs.declared.Client.the-variants.{UndoTo};
+ghost use Rattle.work.specs.declared.End.the-variants.{Cmd};
+ghost use Rattle.client.specs.Client.{takesInput, givesOutput, givesImmediate, inAddress, outAddress, postOf, gaveBy, over, lesser};
+ghost use Rattle.client.specs.Plan.{restPlan, fillFor, commandPlan, lendPlan, undoSend, undoPlan, undoToPlan, commandEnded, lendEnded, undoEnded, clientPlan};
+
+// A command as a client asks for it; the input parameter is looked at in the form without mailboxes.
+pub struct Request {
+    pub form: Form,
+    pub op: u16,
+    pub op_mod: u8,
+    pub in_mod: u32,
+    pub in_param: u64,
+}
+
+// How many undo records one call sends at most.
+const UNDOS: u32 = 0xffff_ffff;
+
+// Whether a form has input in the inbox; output in the outbox; an immediate.
+pub fn takes_input(form: Form) -> bool
+    ensures { λ r. ⌜ r ≡ takesInput form ⌝ }
+{
+    match form {
+        Form::Imm => false,
+        Form::WithIn => true,
+        Form::WithOut => false,
+        Form::InImm => true,
+        Form::InOut => true,
+    }
+}
+
+fn gives_output(form: Form) -> bool
+    ensures { λ r. ⌜ r ≡ givesOutput form ⌝ }
+{
+    match form {
+        Form::Imm => false,
+        Form::WithIn => false,
+        Form::WithOut => true,
+        Form::InImm => false,
+        Form::InOut => true,
+    }
+}
+
+fn gives_immediate(form: Form) -> bool
+    ensures { λ r. ⌜ r ≡ givesImmediate form ⌝ }
+{
+    match form {
+        Form::Imm => true,
+        Form::WithIn => false,
+        Form::WithOut => false,
+        Form::InImm => true,
+        Form::InOut => false,
+    }
+}
+
+// The input parameter: the client's own, the inbox's address, or none.
+fn in_address(held: Held, form: Form, in_param: u64) -> u64
+    ensures { λ r. ⌜ r ≡ inAddress held form «in_param» ⌝ }
+{
+    let inbox = held.inbox;
+    match form {
+        Form::Imm => in_param,
+        Form::WithIn => session::device(inbox),
+        Form::WithOut => 0,
+        Form::InImm => session::device(inbox),
+        Form::InOut => session::device(inbox),
+    }
+}
+
+// The output parameter: the outbox's address, or none.
+fn out_address(held: Held, form: Form) -> u64
+    ensures { λ r. ⌜ r ≡ outAddress held form ⌝ }
+{
+    let outbox = held.outbox;
+    match form {
+        Form::Imm => 0,
+        Form::WithIn => 0,
+        Form::WithOut => session::device(outbox),
+        Form::InImm => 0,
+        Form::InOut => session::device(outbox),
+    }
+}
+
+// The command as it is posted.
+fn post(held: Held, r: Request) -> Post
+    ensures { λ y. ⌜ y ≡ postOf held r ⌝ }
+{
+    let form = r.form;
+    Post {
+        op: r.op,
+        op_mod: r.op_mod,
+        in_mod: r.in_mod,
+        in_param: in_address(held, form, r.in_param),
+        out_param: out_address(held, form),
+    }
+}
+
+fn least(a: usize, b: usize) -> usize
+    ensures { λ r. ⌜ r ≡ lesser a b ⌝ }
+{
+    if a < b {
+        return a;
+    }
+    b
+}
+
+// The bytes of the one stand at the start of the other; what does not fit is left out.
+pub fn copy(to: &mut [u8], from: &[u8])
+    ensures { λ _. ⌜ now (to .exit) ≡ over (now (from .entry)) (now (to .entry)) ⌝ }
+{
+    let n = least(to.len(), from.len());
+    let mut i: usize = 0;
+    while i < n {
+        to[i] = from[i];
+        i = i + 1;
+    }
+}
+
+// The call is over, and this is what it gave.
+fn rest(s: Session, gave: Gave, undo: usize) -> Planned
+    ensures { λ r. ⌜ r ≡ restPlan s gave undo ⌝ }
+{
+    Planned {
+        session: closing::rests(s, gave),
+        fill: Fill::Nothing,
+        undo,
+    }
+}
+
+// The outbox is zeroed before a command that names it.
+fn fill_for(form: Form) -> Fill
+    ensures { λ r. ⌜ r ≡ fillFor form ⌝ }
+{
+    if gives_output(form) {
+        return Fill::Outbox;
+    }
+    Fill::Nothing
+}
+
+// A client's command begins; its input stands in the inbox.
+pub fn command(s: Session, r: Request, undo: usize) -> Planned
+    ensures { λ y. ⌜ y ≡ commandPlan s r undo ⌝ }
+{
+    let form = r.form;
+    let books = s.books;
+    let held = books.held;
+    Planned {
+        session: s.send(Stage::Client(Client::Command(form)), post(held, r)),
+        fill: fill_for(form),
+        undo,
+    }
+}
+
+// A lending begins.
+pub fn lend(s: Session, bytes: u64, undo: usize) -> Planned
+    ensures { λ r. ⌜ r ≡ lendPlan s bytes undo ⌝ }
+{
+    match Making::start(bytes) {
+        MakeStep::More(k) => Planned {
+            session: s.start(Stage::Client(Client::Lend), Task::Make(k)),
+            fill: Fill::Nothing,
+            undo,
+        },
+        MakeStep::Ended(_) => rest(s, Gave::Failed(Refusal::Address), undo),
+    }
+}
+
+// The newest undo record is wanted: it is taken off and sent, unless its opcode is reserved by now.
+fn undo_one(s: Session, mark: usize, more: u32, top: Top) -> Planned
+    requires { ⌜ 0 < top .count ⌝ }
+    ensures { λ r. ⌜ r ≡ undoSend s mark more top ⌝ }
+{
+    if more == 0 {
+        return rest(s.breaks(), Gave::Failed(Refusal::Undo), top.count);
+    }
+    if hcr::reserved(top.op) {
+        return rest(s, Gave::Failed(Refusal::Opcode), top.count);
+    }
+    Planned {
+        session: s.send(
+            Stage::Client(Client::UndoTo(mark, more - 1)),
+            session::imm(top.op, top.op_mod, top.in_mod, top.in_param),
+        ),
+        fill: Fill::Nothing,
+        undo: top.count - 1,
+    }
+}
+
+// The undo records while there are more than so many, newest first; none on a broken session.
+fn undo(s: Session, mark: usize, more: u32, top: Top) -> Planned
+    ensures { λ r. ⌜ r ≡ undoPlan s mark more top ⌝ }
+{
+    let books = s.books;
+    let wire = books.wire;
+    if top.count <= mark {
+        return rest(s, Gave::Nothing, top.count);
+    }
+    if wire.broken {
+        return rest(s, Gave::Failed(Refusal::Undo), top.count);
+    }
+    undo_one(s, mark, more, top)
+}
+
+// The undo records from this one on are to be sent.
+pub fn undo_to(s: Session, mark: usize, top: Top) -> Planned
+    ensures { λ r. ⌜ r ≡ undoToPlan s mark top ⌝ }
+{
+    undo(s, mark, UNDOS, top)
+}
+
+// What a command gave.
+fn gave_by(form: Form, r: CmdResult) -> Gave
+    ensures { λ y. ⌜ y ≡ gaveBy form r ⌝ }
+{
+    match r {
+        CmdResult::Done(x, us) => {
+            if gives_immediate(form) {
+                return Gave::Command(x, us);
+            }
+            Gave::Command(0, us)
+        }
+        CmdResult::Status(_, _) => Gave::Failed(session::failure_of(r)),
+        CmdResult::Timeout(_) => Gave::Failed(session::failure_of(r)),
+        CmdResult::Busy => Gave::Failed(session::failure_of(r)),
+        CmdResult::Bus(_) => Gave::Failed(session::failure_of(r)),
+    }
+}
+
+// A client's command has ended: but for a status, one that failed breaks the session.
+fn commanded(s: Session, form: Form, x: CmdEnd, undo: usize) -> Planned
+    ensures { λ r. ⌜ r ≡ commandEnded s form x undo ⌝ }
+{
+    let t = s.took(x);
+    let result = x.result;
+    rest(t.broken_by(result), gave_by(form, result), undo)
+}
+
+// The buffer is lent, or was not to be had.
+fn lent(s: Session, made: Made, undo: usize) -> Planned
+    ensures { λ r. ⌜ r ≡ lendEnded s made undo ⌝ }
+{
+    match made {
+        Made::Ready(b) => rest(s.lends(b), Gave::Lent(b), undo),
+        Made::Refused(why) => rest(s, Gave::Failed(session::fault_of(why)), undo),
+    }
+}
+
+// An undo record was sent: any failure breaks the session and ends the call.
+fn undone(s: Session, mark: usize, more: u32, x: CmdEnd, top: Top) -> Planned
+    ensures { λ r. ⌜ r ≡ undoEnded s mark more x top ⌝ }
+{
+    let t = s.took(x);
+    let result = x.result;
+    if closing::is_done(result) {
+        return undo(t, mark, more, top);
+    }
+    rest(t.breaks(), Gave::Failed(Refusal::Undo), top.count)
+}
+
+// What follows when a task of a client's call has ended.
+pub fn served(s: Session, client: Client, end: End, top: Top) -> Planned
+    ensures { λ r. ⌜ r ≡ clientPlan s client end top ⌝ }
+{
+    match client {
+        Client::Command(form) => commanded(s, form, closing::cmd_in(end), top.count),
+        Client::Lend => lent(s, session::made_in(end), top.count),
+        Client::UndoTo(mark, more) => undone(s, mark, more, closing::cmd_in(end), top),
+    }
+}
