@@ -25,6 +25,8 @@ use Rattle.session.specs.declared.Stage.{Stage}
 use Rattle.session.specs.declared.Stage.the-variants as g
 use Rattle.session.specs.declared.Close.{Close}
 use Rattle.session.specs.declared.Close.the-variants as kc
+use Rattle.session.specs.declared.Client.{Client}
+use Rattle.session.specs.declared.Client.the-variants as ku
 use Rattle.session.specs.declared.Boot.{Boot}
 use Rattle.session.specs.declared.Boot.the-variants as k
 use Rattle.session.specs.declared.Prepare.{Prepare}
@@ -35,6 +37,8 @@ use Rattle.session.specs.declared.Session.{Session}
 use Rattle.session.specs.declared.Planned.{Planned}
 use Rattle.closing.specs.Plan.{closeCourse, afterClose, closePlan}
 use Rattle.closing.proofs.Lands as z
+use Rattle.client.specs.Plan.{clientCourse, afterClient, clientPlan}
+use Rattle.client.proofs.Lands as cl
 use Rattle.opening.specs.Plan.{bootCourse, prepareCourse, afterBoot, afterPrepare, boxOf, lists}
 use Rattle.opening.proofs.Lands.{wrote, leads, boot-lands, prepare-lands}
 use Rattle.fw.specs.Calls.{begunOf, begunIn, begunOut, planOf, withWork, filledList}
@@ -44,12 +48,13 @@ use Rattle.fw.specs.Follows.{courseOf, courseAt}
 abbrev pub counted : Top → ℕ → Top
 counted u n = record { count = n; op = u .op; «op_mod» = u .«op_mod»; «in_mod» = u .«in_mod»; «in_param» = u .«in_param» }
 
-pub same-course : (st : Stage) (s : Session) (h : Here) → courseAt st s h ≡ z.means prepareCourse bootCourse st s h
+pub same-course : (st : Stage) (s : Session) (h : Here) → courseAt st s h ≡ z.means prepareCourse bootCourse clientCourse st s h
 same-course g.Fresh s h = refl
-same-course g.Open s h = refl
+same-course (g.Open y) s h = refl
 same-course g.Ended s h = refl
 same-course (g.Prepare y) s h = refl
 same-course (g.Boot y) s h = refl
+same-course (g.Client y) s h = refl
 same-course (g.Close y) s h = refl
 
 list-begun : (c : Cutter) (s : Session) (i : List ℕ) → length i ≡ 4096 → filledList c s i ≡ lists s (listedOf 63 256 c)
@@ -90,6 +95,7 @@ close-same kc.CloseHca s v y h = refl
 close-same (kc.Unmap i) s v y h = refl
 close-same kc.UnmapAux s v y h = refl
 close-same kc.UnmapFa s v y h = refl
+close-same kc.Quiesce s v y h = refl
 close-same kc.Reset s v y h = refl
 close-same (kc.FreeLent i) s v y h = refl
 close-same (kc.FreeIcm i) s v y h = refl
@@ -99,6 +105,11 @@ close-same kc.FreeInbox s v y h = refl
 close-same kc.FreeOutbox s v y h = refl
 close-same kc.Release s v y h = refl
 close-same kc.Restore s v y h = refl
+
+client-same : (st : Client) (s : Session) (v : Work) (y : End) (h : Here) → afterClient st (withWork s v) y h ≡ afterClient st s y h
+client-same (ku.Command o) s v y h = refl
+client-same ku.Lend s v y h = refl
+client-same (ku.UndoTo n m) s v y h = refl
 
 prepare-same : (st : Prepare) (s : Session) (v : Work) (y : End) (h : Here) → afterPrepare st (withWork s v) y h ≡ afterPrepare st s y h
 prepare-same p.Attributes s v y h = refl
@@ -122,6 +133,10 @@ module _ (b : Books) (n : Info) (f : Failure) (c : Closing) where
   unfolding closeCourse
   close-course st v u h = run-same neither (workScript (h .inbox) v) _ _ h (λ y j. close-same st (at (g.Close st) u) v y j)
 
+  pub client-course : (st : Client) (v u : Work) (h : Here) → courseOf (at (g.Client st) v) h ≡ run neither (workScript (h .inbox) v) (afterClient st (at (g.Client st) u)) h
+  unfolding clientCourse
+  client-course st v u h = run-same neither (workScript (h .inbox) v) _ _ h (λ y j. client-same st (at (g.Client st) u) v y j)
+
   pub prepare-course : (st : Prepare) (v u : Work) (h : Here) → courseOf (at (g.Prepare st) v) h ≡ run (boxOf st) (workScript (h .inbox) v) (afterPrepare st (at (g.Prepare st) u)) h
   unfolding prepareCourse
   prepare-course st v u h = run-same (boxOf st) (workScript (h .inbox) v) _ _ h (λ y j. prepare-same st (at (g.Prepare st) u) v y j)
@@ -130,7 +145,10 @@ module _ (b : Books) (n : Info) (f : Failure) (c : Closing) where
   boot-plan st v u y h = boot-lands st (at (g.Boot st) v) y h ∙ boot-same st (at (g.Boot st) u) v y h
 
   pub close-plan : (st : Close) (v u : Work) (y : End) (h : Here) → leads (planOf (at (g.Close st) v) y (h .outbox) (h .undo)) h ≡ afterClose st (at (g.Close st) u) y h
-  close-plan st v u y h = z.close-lands prepareCourse bootCourse wrote st (at (g.Close st) v) y h ∙ close-same st (at (g.Close st) u) v y h
+  close-plan st v u y h = z.close-lands prepareCourse bootCourse clientCourse wrote st (at (g.Close st) v) y h ∙ close-same st (at (g.Close st) u) v y h
+
+  pub client-plan : (st : Client) (v u : Work) (y : End) (h : Here) → leads (planOf (at (g.Client st) v) y (h .outbox) (h .undo)) h ≡ afterClient st (at (g.Client st) u) y h
+  client-plan st v u y h = cl.client-lands prepareCourse bootCourse wrote st (at (g.Client st) v) y h ∙ client-same st (at (g.Client st) u) v y h
 
   pub prepare-plan : (st : Prepare) (v u : Work) (y : End) (h : Here) → leads (planOf (at (g.Prepare st) v) y (h .outbox) (h .undo)) h ≡ afterPrepare st (at (g.Prepare st) u) y h
   prepare-plan st v u y h = prepare-lands st (at (g.Prepare st) v) y h ∙ prepare-same st (at (g.Prepare st) u) v y h

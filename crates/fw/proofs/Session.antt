@@ -69,22 +69,15 @@ use Rattle.session.specs.declared.Prepare.{Prepare}
 use Rattle.session.specs.declared.Prepare.the-variants as p
 use Rattle.session.specs.declared.Session.{Session}
 use Rattle.closing.specs.Plan.{closeCourse, afterClose}
+use Rattle.client.specs.Plan.{clientCourse, afterClient}
+use Rattle.session.specs.declared.Client.{Client}
 use Rattle.opening.specs.Plan.{bootCourse, prepareCourse, afterBoot, afterPrepare, boxOf}
-use Rattle.session.specs.Session.{fresh}
-use Rattle.session.specs.declared.Failure.the-variants as fa
-use Rattle.session.specs.declared.Fill.{Fill}
-use Rattle.closing.specs.Closing.{stopping}
-use Rattle.closing.specs.Plan.{stopPlan, planHere}
-use Rattle.closing.proofs.Lands as lc
-use Rattle.closing.proofs.Fills.{stop-fill}
-use Rattle.opening.specs.Opening.{opening}
-use Rattle.opening.specs.Plan.{openPlan}
-use Rattle.opening.proofs.Lands.{leads, wrote, open-lands}
-use Rattle.fw.specs.Calls.{asksOf, stepOf, stepIn, stepOut, stepTurn, stepBoxIn, stepBoxOut, withWork, wipeOf, wipeBy, wipePrepare, isAllocate, isGranted, planOf, begunOf, begunIn, begunOut, closingOf, withoutFailure}
+use Rattle.opening.proofs.Lands.{leads}
+use Rattle.fw.specs.Calls.{asksOf, stepOf, stepIn, stepOut, stepTurn, stepBoxIn, stepBoxOut, withWork, wipeOf, wipeBy, wipePrepare, isAllocate, isGranted, planOf, begunOf, begunIn, begunOut}
 use Rattle.fw.specs.declared.Wipe.{Wipe}
 use Rattle.fw.specs.declared.Wipe.the-variants as v
 use Rattle.fw.specs.Follows.{courseOf, courseAt, isRunning, hereAfter, Follows}
-use Rattle.fw.proofs.Landed.{same-course, begun-leads, counted, at, boot-course, close-course, prepare-course, boot-plan, close-plan, prepare-plan, touched-neither}
+use Rattle.fw.proofs.Landed.{same-course, begun-leads, counted, at, boot-course, client-course, close-course, prepare-course, boot-plan, client-plan, close-plan, prepare-plan, touched-neither}
 
 abbrev Holds : Bool → Type 0
 Holds true = Unit {0}
@@ -93,10 +86,11 @@ Holds false = ⊥
 -- Between two calls nothing is asked, and nothing changes.
 by-rest : (st : Stage) (s : Session) (h : Here) → isRunning st ≡ false → asksOf s ≡ q.Finished → Follows s h (courseAt st s h)
 by-rest g.Fresh s h r a = (a, refl, refl)
-by-rest g.Open s h r a = (a, refl, refl)
+by-rest (g.Open y) s h r a = (a, refl, refl)
 by-rest g.Ended s h r a = (a, refl, refl)
 by-rest (g.Prepare y) s h r a = absurd (subst Holds r tt)
 by-rest (g.Boot y) s h r a = absurd (subst Holds r tt)
+by-rest (g.Client y) s h r a = absurd (subst Holds r tt)
 by-rest (g.Close y) s h r a = absurd (subst Holds r tt)
 
 pub rests : (s : Session) (h : Here) → isRunning (s .stage) ≡ false → asksOf s ≡ q.Finished → Follows s h (courseOf s h)
@@ -168,6 +162,12 @@ module _ (b : Books) (n : Info) (f : Failure) (c : Closing) (u : Work) (h : Here
   close-follows st =
       task-follows (at b n f c (g.Close st) u) neither (afterClose st (at b n f c (g.Close st) u)) (λ x j. close-course b n f c st x u j) (λ x y j. close-plan b n f c st x u y j)
       (λ a. neither-quiet (at b n f c (g.Close st) u) a refl) (λ y d r j. touched-neither y r j) h l busy
+
+  client-follows : (st : Client) → Follows (at b n f c (g.Client st) u) h (courseOf (at b n f c (g.Client st) u) h)
+  unfolding clientCourse
+  client-follows st =
+      task-follows (at b n f c (g.Client st) u) neither (afterClient st (at b n f c (g.Client st) u)) (λ x j. client-course b n f c st x u j) (λ x y j. client-plan b n f c st x u y j)
+      (λ a. neither-quiet (at b n f c (g.Client st) u) a refl) (λ y d r j. touched-neither y r j) h l busy
 
   prepare-neither : (st : Prepare) → wipePrepare st ≡ v.Neither → boxOf st ≡ neither → Follows (at b n f c (g.Prepare st) u) h (courseOf (at b n f c (g.Prepare st) u) h)
   unfolding prepareCourse
@@ -324,22 +324,13 @@ module _ (b : Books) (n : Info) (f : Failure) (c : Closing) (r : Reset) (d : Fin
 by-stage : (st : Stage) (b : Books) (n : Info) (f : Failure) (c : Closing) (u : Work) (h : Here) → length (h .inbox) ≡ 4096 → isRunning st ≡ true → isResting (u .task) ≡ false
     → Follows (at b n f c st u) h (courseOf (at b n f c st u) h)
 by-stage g.Fresh b n f c u h l r busy = absurd (subst Holds (sym r) tt)
-by-stage g.Open b n f c u h l r busy = absurd (subst Holds (sym r) tt)
+by-stage (g.Open y) b n f c u h l r busy = absurd (subst Holds (sym r) tt)
 by-stage g.Ended b n f c u h l r busy = absurd (subst Holds (sym r) tt)
 by-stage (g.Prepare st) b n f c u h l r busy = prepare-follows b n f c (u .reset) (u .find) h l st (u .task) busy
 by-stage (g.Boot st) b n f c u h l r busy = boot-follows b n f c u h l busy st
+by-stage (g.Client st) b n f c u h l r busy = client-follows b n f c u h l busy st
 by-stage (g.Close st) b n f c u h l r busy = close-follows b n f c u h l busy st
 
 -- THE THEOREM: every session in which a call is running and a task is under way follows the course of its call, from whatever state
 pub session-follows : (s : Session) (h : Here) → length (h .inbox) ≡ 4096 → isRunning (s .stage) ≡ true → isResting (s .work .task) ≡ false → Follows s h (courseOf s h)
 session-follows s h l r busy = by-stage (s .stage) (s .books) (s .info) (s .failure) (s .closing) (s .work) h l r busy
-
--- AN OPENING begins with the whole course before it, and so does a closing; "20" and "21" leave everything as it is, by the definitions of the calls
-pub opens : (h : Here) → courseOf (openPlan fresh (h .undo) .session) h ≡ opening h
-opens h = open-lands fresh h
-
-pub closes : (s : Session) (h : Here) → courseOf (closingOf s (h .undo) .session) (here (h .inbox) (h .outbox) (counted (h .undo) (closingOf s (h .undo) .undo))) ≡ stopping (s .info) fa.Nothing (s .books) h
-closes s h =
-    same-course (closingOf s (h .undo) .session .stage) (closingOf s (h .undo) .session) _
-    ∙ (sym (ap (λ (x : Fill). lc.filled prepareCourse bootCourse wrote x (stopPlan (withoutFailure s) (h .undo) .session) (planHere (stopPlan (withoutFailure s) (h .undo)) h)) (stop-fill (withoutFailure s) (h .undo)))
-    ∙ lc.stop-leads prepareCourse bootCourse wrote (withoutFailure s) h)

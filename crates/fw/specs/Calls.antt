@@ -1,4 +1,4 @@
--- The calls of a session: what each leaves of the session, the mailboxes and the undo list, and when it is refused.
+-- An answer: what it leaves of the session, the mailboxes and the undo list, and when it is refused.
 use Prim.Native.Nat.{ℕ, _≤_}
 use mathlib.Core.Bool.{Bool, true, false, _&&_, not}
 use mathlib.Core.List.{List}
@@ -25,7 +25,7 @@ use Rattle.work.specs.declared.End.{End}
 use Rattle.work.specs.declared.Ending.{Ending}
 use Rattle.work.specs.declared.Ending.the-variants as e
 use Rattle.work.specs.declared.Work.{Work}
-use Rattle.session.specs.Session.{session, planned, fresh}
+use Rattle.session.specs.Session.{session, planned}
 use Rattle.session.specs.Course.{blank}
 use Rattle.session.specs.declared.Top.{Top}
 use Rattle.session.specs.declared.Books.{Books}
@@ -40,9 +40,10 @@ use Rattle.session.specs.declared.Fill.{Fill}
 use Rattle.session.specs.declared.Fill.the-variants as w
 use Rattle.session.specs.declared.Session.{Session}
 use Rattle.session.specs.declared.Planned.{Planned}
-use Rattle.closing.specs.Plan.{closePlan, stopPlan}
+use Rattle.closing.specs.Plan.{closePlan}
+use Rattle.client.specs.Plan.{clientPlan}
 use Rattle.opening.specs.Values.{layoutIn}
-use Rattle.opening.specs.Plan.{bootPlan, preparePlan, openPlan, lists}
+use Rattle.opening.specs.Plan.{bootPlan, preparePlan, lists}
 use Rattle.session.specs.declared.Closing.{Closing}
 use Rattle.fw.specs.declared.Outcome.{Outcome}
 use Rattle.fw.specs.declared.Outcome.the-variants as u
@@ -101,10 +102,11 @@ staysPlan s u = planned s w.Nothing u
 
 abbrev pub planAt : Session → End → List ℕ → Top → Stage → Planned
 planAt s y out top g.Fresh = staysPlan s (top .count)
-planAt s y out top g.Open = staysPlan s (top .count)
+planAt s y out top (g.Open z) = staysPlan s (top .count)
 planAt s y out top g.Ended = staysPlan s (top .count)
 planAt s y out top (g.Prepare z) = preparePlan s z y top
 planAt s y out top (g.Boot z) = bootPlan s z y out top
+planAt s y out top (g.Client z) = clientPlan s z y top
 planAt s y out top (g.Close z) = closePlan s z y top
 
 abbrev pub planOf : Session → End → List ℕ → Top → Planned
@@ -123,10 +125,11 @@ wipePrepare p.Look = v.Neither
 
 abbrev pub wipeBy : Stage → Wipe
 wipeBy g.Fresh = v.Neither
-wipeBy g.Open = v.Neither
+wipeBy (g.Open z) = v.Neither
 wipeBy g.Ended = v.Neither
 wipeBy (g.Prepare z) = wipePrepare z
 wipeBy (g.Boot z) = v.Neither
+wipeBy (g.Client z) = v.Neither
 wipeBy (g.Close z) = v.Neither
 
 abbrev pub isAllocate : Question → Bool
@@ -240,44 +243,6 @@ answerIn s a r i o top = inTime (answerable s a) (isLent i o top) (stepIn s a r 
 abbrev pub answerOut : Session → Answer → (resource inbox outbox : List ℕ) → Top → List ℕ
 answerOut s a r i o top = inTime (answerable s a) (isLent i o top) (stepOut s a r o top) o o
 
--- OPEN: "A session is opened once, and a new opening takes a fresh one." CLOSE: an open session
-abbrev pub isFresh : Stage → Bool
-isFresh g.Fresh = true
-isFresh g.Open = false
-isFresh g.Ended = false
-isFresh (g.Prepare y) = false
-isFresh (g.Boot y) = false
-isFresh (g.Close y) = false
-
-abbrev pub isOpen : Stage → Bool
-isOpen g.Fresh = false
-isOpen g.Open = true
-isOpen g.Ended = false
-isOpen (g.Prepare y) = false
-isOpen (g.Boot y) = false
-isOpen (g.Close y) = false
-
-abbrev pub openable : Session → Bool
-openable s = isSession s && isFresh (s .stage)
-
-abbrev pub closable : Session → Bool
-closable s = isSession s && isOpen (s .stage)
-
-abbrev pub begins : Planned → Turn
-begins y = turnOf (y .session) (y .undo)
-
-abbrev pub openOf : Session → (inbox outbox : List ℕ) → Top → Turn
-openOf s i o top = inTime (openable s) (isLent i o top) (begins (openPlan fresh top)) (refusedOf s x.Short (top .count)) (refusedOf s x.Wrong (top .count))
-
-abbrev pub withoutFailure : Session → Session
-withoutFailure s = session (s .stage) (s .work) (s .books) (s .info) f.Nothing (s .closing)
-
-abbrev pub closingOf : Session → Top → Turn
-closingOf s top = begins (stopPlan (withoutFailure s) top)
-
-abbrev pub closeOf : Session → (inbox outbox : List ℕ) → Top → Turn
-closeOf s i o top = inTime (closable s) (isLent i o top) (closingOf s top) (refusedOf s x.Short (top .count)) (refusedOf s x.Wrong (top .count))
-
 -- THE OUTCOME: "An opening fails by the first other failure, returned after closing has run, with closing's result beside it"
 abbrev pub endedAs : Failure → Closing → Outcome
 endedAs f.Nothing c = u.Closed c
@@ -285,10 +250,11 @@ endedAs (f.By y) c = u.Failed y c
 
 abbrev pub outcomeAt : Failure → Closing → Stage → Outcome
 outcomeAt y c g.Fresh = u.Fresh
-outcomeAt y c g.Open = u.Opened
+outcomeAt y c (g.Open z) = u.Opened z
 outcomeAt y c g.Ended = endedAs y c
 outcomeAt y c (g.Prepare z) = u.Running
 outcomeAt y c (g.Boot z) = u.Running
+outcomeAt y c (g.Client z) = u.Running
 outcomeAt y c (g.Close z) = u.Running
 
 abbrev pub outcomeOf : Session → Outcome

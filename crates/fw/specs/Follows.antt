@@ -14,17 +14,19 @@ use Rattle.session.specs.declared.Stage.{Stage}
 use Rattle.session.specs.declared.Stage.the-variants as g
 use Rattle.session.specs.declared.Session.{Session}
 use Rattle.closing.specs.Plan.{closeCourse}
+use Rattle.client.specs.Plan.{clientCourse}
 use Rattle.opening.specs.Plan.{bootCourse, prepareCourse}
 use Rattle.fw.specs.Calls.{asksOf, stepOf, stepIn, stepOut}
 use Rattle.fw.specs.declared.Turn.{Turn}
 
--- THE COURSE that is left in a session: of the opening or the closing that its stage names, from the task that is under way on
+-- THE COURSE that is left in a session: of the call that its stage names, from the task that is under way on
 abbrev pub courseAt : Stage → Session → Here → Course Rest
 courseAt g.Fresh s h = ret (left h) (restOf s)
-courseAt g.Open s h = ret (left h) (restOf s)
+courseAt (g.Open y) s h = ret (left h) (restOf s)
 courseAt g.Ended s h = ret (left h) (restOf s)
 courseAt (g.Prepare y) s h = prepareCourse y s h
 courseAt (g.Boot y) s h = bootCourse y s h
+courseAt (g.Client y) s h = clientCourse y s h
 courseAt (g.Close y) s h = closeCourse y s h
 
 abbrev pub courseOf : Session → Here → Course Rest
@@ -33,10 +35,11 @@ courseOf s h = courseAt (s .stage) s h
 -- a call is running in this stage
 abbrev pub isRunning : Stage → Bool
 isRunning g.Fresh = false
-isRunning g.Open = false
+isRunning (g.Open y) = false
 isRunning g.Ended = false
 isRunning (g.Prepare y) = true
 isRunning (g.Boot y) = true
+isRunning (g.Client y) = true
 isRunning (g.Close y) = true
 
 -- where the session stands after a step: the mailboxes and the undo list as it left them

@@ -1,4 +1,5 @@
-// The session as a loader sees it: `open`, `close` and `answer`. Each takes the session and gives it back with the question that is now open, or with a refusal.
+// The session as it takes answers: an answer takes the session and gives it back with the question that is now open, or with a refusal. How a call begins is
+// the crate `calls`.
 use dma::PageList;
 use init::InitHca;
 use pci::Answer;
@@ -8,6 +9,7 @@ use pci::Refusal;
 use session::Closing;
 use session::Failure;
 use session::Fill;
+use session::Gave;
 use session::Info;
 use session::Planned;
 use session::Prepare;
@@ -35,11 +37,11 @@ pub enum Wipe {
     Outbox,
 }
 
-// What has become of a session: not opened yet; a call is running; open; the opening failed, with closing's result beside it; closed.
+// What has become of a session: not opened yet; a call is running; open, with what the last call gave; the opening failed, with closing's result beside it; closed.
 pub enum Outcome {
     Fresh,
     Running,
-    Opened,
+    Opened(Gave),
     Failed(Refusal, Closing),
     Closed(Closing),
 }
@@ -88,10 +90,11 @@ fn wipe_by(stage: Stage) -> Wipe
 {
     match stage {
         Stage::Fresh => Wipe::Neither,
-        Stage::Open => Wipe::Neither,
+        Stage::Open(_) => Wipe::Neither,
         Stage::Ended => Wipe::Neither,
         Stage::Prepare(p) => wipe_prepare(p),
         Stage::Boot(_) => Wipe::Neither,
+        Stage::Client(_) => Wipe::Neither,
         Stage::Close(_) => Wipe::Neither,
     }
 }
@@ -231,10 +234,11 @@ fn follow(s: Session, end: End, outbox: &[u8], top: Top) -> Planned
     let stage = s.stage;
     match stage {
         Stage::Fresh => stays(s, top.count),
-        Stage::Open => stays(s, top.count),
+        Stage::Open(_) => stays(s, top.count),
         Stage::Ended => stays(s, top.count),
         Stage::Prepare(p) => opening::prepared(s, p, end, top),
         Stage::Boot(b) => opening::booted(s, b, end, outbox, top),
+        Stage::Client(k) => client::served(s, k, end, top),
         Stage::Close(c) => closing::closed(s, c, end, top),
     }
 }
@@ -252,7 +256,7 @@ fn takes_turn(session: Session, undo: usize) -> Turn
 }
 
 // A turn that was refused leaves everything as it is.
-fn refused(session: Session, why: Refusal, undo: usize) -> Turn
+pub fn refused(session: Session, why: Refusal, undo: usize) -> Turn
     ensures { λ r. ⌜ r ≡ f.refusedOf session why undo ⌝ }
 {
     Turn {
@@ -264,7 +268,7 @@ fn refused(session: Session, why: Refusal, undo: usize) -> Turn
 }
 
 // A plan is begun: the mailboxes are written, and the next question is open.
-fn begin(p: Planned, inbox: &mut [u8], outbox: &mut [u8]) -> Turn
+pub fn begin(p: Planned, inbox: &mut [u8], outbox: &mut [u8]) -> Turn
     ensures { λ r. ⌜ r ≡ f.begunOf p (now (inbox .entry)) ⌝ }
     ensures { λ r. ⌜ now (inbox .exit) ≡ f.begunIn p (now (inbox .entry)) ⌝ }
     ensures { λ r. ⌜ now (outbox .exit) ≡ f.begunOut p (now (outbox .entry)) ⌝ }
@@ -332,7 +336,7 @@ fn step(
 }
 
 // The struct is a session: its lists are within their arrays.
-fn is_session(s: Session) -> bool
+pub fn is_session(s: Session) -> bool
     ensures { λ r. ⌜ r ≡ f.isSession s ⌝ }
 {
     let books = s.books;
@@ -347,7 +351,7 @@ fn is_session(s: Session) -> bool
 }
 
 // What is lent is long enough: both mailboxes, and the undo list not too long.
-fn is_lent(inbox: &[u8], outbox: &[u8], top: Top) -> bool
+pub fn is_lent(inbox: &[u8], outbox: &[u8], top: Top) -> bool
     ensures { λ r. ⌜ r ≡ f.isLent (now (inbox .entry)) (now (outbox .entry)) top ⌝ }
 {
     if inbox.len() != Lent::MAILBOX {
@@ -395,100 +399,6 @@ pub fn answer(
     refused(s, Refusal::Wrong, top.count)
 }
 
-fn is_fresh(stage: Stage) -> bool
-    ensures { λ r. ⌜ r ≡ f.isFresh stage ⌝ }
-{
-    match stage {
-        Stage::Fresh => true,
-        Stage::Open => false,
-        Stage::Ended => false,
-        Stage::Prepare(_) => false,
-        Stage::Boot(_) => false,
-        Stage::Close(_) => false,
-    }
-}
-
-fn is_open(stage: Stage) -> bool
-    ensures { λ r. ⌜ r ≡ f.isOpen stage ⌝ }
-{
-    match stage {
-        Stage::Fresh => false,
-        Stage::Open => true,
-        Stage::Ended => false,
-        Stage::Prepare(_) => false,
-        Stage::Boot(_) => false,
-        Stage::Close(_) => false,
-    }
-}
-
-// The session was never opened; else `open` is refused with 20.
-pub fn openable(s: Session) -> bool
-    ensures { λ r. ⌜ r ≡ f.openable s ⌝ }
-{
-    let stage = s.stage;
-    if is_session(s) {
-        return is_fresh(stage);
-    }
-    false
-}
-
-// The session is open; else `close` is refused with 20.
-pub fn closable(s: Session) -> bool
-    ensures { λ r. ⌜ r ≡ f.closable s ⌝ }
-{
-    let stage = s.stage;
-    if is_session(s) {
-        return is_open(stage);
-    }
-    false
-}
-
-// Opens a session that was never opened: 20 for any other, then 21.
-pub fn open(s: Session, inbox: &mut [u8], outbox: &mut [u8], top: Top) -> Turn
-    ensures { λ r. ⌜ r ≡ f.openOf s (now (inbox .entry)) (now (outbox .entry)) top ⌝ }
-    ensures { λ r. ⌜ now (inbox .exit) ≡ now (inbox .entry) ⌝ }
-    ensures { λ r. ⌜ now (outbox .exit) ≡ now (outbox .entry) ⌝ }
-{
-    if openable(s) {
-        if is_lent(inbox, outbox, top) {
-            let p = opening::open(Session::fresh(), top);
-            let t = p.session;
-            return takes_turn(t, p.undo);
-        }
-        return refused(s, Refusal::Short, top.count);
-    }
-    refused(s, Refusal::Wrong, top.count)
-}
-
-fn closing_of(s: Session, top: Top) -> Turn
-    ensures { λ r. ⌜ r ≡ f.closingOf s top ⌝ }
-{
-    let p = closing::stop(
-        Session {
-            failure: Failure::Nothing,
-            ..s
-        },
-        top,
-    );
-    let t = p.session;
-    takes_turn(t, p.undo)
-}
-
-// Closes a session that is open: 20 for any other, then 21.
-pub fn close(s: Session, inbox: &mut [u8], outbox: &mut [u8], top: Top) -> Turn
-    ensures { λ r. ⌜ r ≡ f.closeOf s (now (inbox .entry)) (now (outbox .entry)) top ⌝ }
-    ensures { λ r. ⌜ now (inbox .exit) ≡ now (inbox .entry) ⌝ }
-    ensures { λ r. ⌜ now (outbox .exit) ≡ now (outbox .entry) ⌝ }
-{
-    if closable(s) {
-        if is_lent(inbox, outbox, top) {
-            return closing_of(s, top);
-        }
-        return refused(s, Refusal::Short, top.count);
-    }
-    refused(s, Refusal::Wrong, top.count)
-}
-
 fn ended(failure: Failure, closing: Closing) -> Outcome
     ensures { λ r. ⌜ r ≡ f.endedAs failure closing ⌝ }
 {
@@ -507,10 +417,11 @@ pub fn result(s: Session) -> Outcome
     let closing = s.closing;
     match stage {
         Stage::Fresh => Outcome::Fresh,
-        Stage::Open => Outcome::Opened,
+        Stage::Open(gave) => Outcome::Opened(gave),
         Stage::Ended => ended(failure, closing),
         Stage::Prepare(_) => Outcome::Running,
         Stage::Boot(_) => Outcome::Running,
+        Stage::Client(_) => Outcome::Running,
         Stage::Close(_) => Outcome::Running,
     }
 }

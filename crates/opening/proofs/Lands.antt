@@ -81,6 +81,7 @@ use Rattle.session.specs.declared.Planned.{Planned}
 use Rattle.closing.specs.Closing.{isDone, emptied, inHold, parted, restored, freed}
 use Rattle.closing.specs.Plan.{cmdIn, resetIn, resetsOf, restorePlan, releasePlan, stopPlan, tookBooks, onHold, planHere}
 use Rattle.closing.proofs.Lands as z
+use Rattle.client.specs.Plan.{clientCourse}
 use Rattle.opening.specs.Values.{refusalOf, fwFailureOf, withToggle, withCatas, withOriginal, withInbox, withOutbox, nowStarted, layoutIn, rangeAt, opFor, enters, cutterFor, withUar, withRevision, withCap, withFunc, withPort}
 use Rattle.opening.specs.Opening.{fails, failsBy, onGood, onValue, asking, holds, opened, queryAdapter, queryFunc, initHca, mapping, onMade, mapIcm, areaFor, setIcmSize, layingOut, queryPorts, portsOf, queryDevCap, modStat, runFw, fwReply, queryFw, look, makeOutbox, giveInbox, makeInbox, onFound, findUar, firstReset, onClaimed, claim, onEnabled, enable, opening}
 use Rattle.opening.specs.Plan.{attrIn, claimIn, barIn, toggleIn, withFailure, failPlan, givesUp, partPlan, failByPlan, openedPlan, askPlan, givePlan, immPlan, funcPlan, makePlan, rangePlan, nextRange, mappedPlan, mapPlan, areaPlan, layoutPlan, portPlan, goodPlan, fwReplied, capReplied, portReplied, funcReplied, fwPlan, statPlan, bootPlan, boxPlan, attrPlan, claimPlan, findsOf, resetPlan, barPlan, inboxPlan, givesInbox, outboxPlan, preparePlan, openPlan, lists, nextOf, afterBoot, bootCourse, afterPrepare, boxOf, prepareCourse}
@@ -88,29 +89,29 @@ use Rattle.opening.proofs.Cutting.{mapping-none, mapping-any, mapping-s
 
 -- what the session means once a mailbox is written
 abbrev pub wrote : Fill → Session → Here → Course Rest
-wrote w.Nothing s h = z.means prepareCourse bootCourse (s .stage) s h
-wrote w.Outbox s h = z.means prepareCourse bootCourse (s .stage) s (zeroed outbox h)
-wrote (w.List y) s h = z.means prepareCourse bootCourse (lists s (listedOf 63 256 y) .stage) (lists s (listedOf 63 256 y)) (holds (filledAt 63 256 y (h .inbox)) h)
-wrote w.ModStat s h = z.means prepareCourse bootCourse (s .stage) s (holds (filledBy (h .inbox) modStatCfg) h)
-wrote w.InitHca s h = z.means prepareCourse bootCourse (s .stage) s (holds (filledBy (h .inbox) (fieldsOf (initOf (s .info .cap) (layoutIn (s .info) .rows)))) h)
+wrote w.Nothing s h = z.means prepareCourse bootCourse clientCourse (s .stage) s h
+wrote w.Outbox s h = z.means prepareCourse bootCourse clientCourse (s .stage) s (zeroed outbox h)
+wrote (w.List y) s h = z.means prepareCourse bootCourse clientCourse (lists s (listedOf 63 256 y) .stage) (lists s (listedOf 63 256 y)) (holds (filledAt 63 256 y (h .inbox)) h)
+wrote w.ModStat s h = z.means prepareCourse bootCourse clientCourse (s .stage) s (holds (filledBy (h .inbox) modStatCfg) h)
+wrote w.InitHca s h = z.means prepareCourse bootCourse clientCourse (s .stage) s (holds (filledBy (h .inbox) (fieldsOf (initOf (s .info .cap) (layoutIn (s .info) .rows)))) h)
 
 abbrev pub leads : Planned → Here → Course Rest
-leads y h = z.leads prepareCourse bootCourse wrote y h
+leads y h = z.leads prepareCourse bootCourse clientCourse wrote y h
 
 pick-leads : (b : Bool) (x y : Planned) (h : Here) (v t : Course Rest) → leads x h ≡ v → leads y h ≡ t → leads (pick b x y) h ≡ pick b v t
-pick-leads b x y h v t d e = z.pick-leads prepareCourse bootCourse wrote b x y h v t d e
+pick-leads b x y h v t d e = z.pick-leads prepareCourse bootCourse clientCourse wrote b x y h v t d e
 
 -- FAILURES
 fail-leads : (s : Session) (y : Refusal) (h : Here) → leads (failPlan s y (h .undo)) h ≡ fails y (s .info) (s .books) h
 unfolding failPlan
-fail-leads s y h = z.stop-leads prepareCourse bootCourse wrote (withFailure s y) h
+fail-leads s y h = z.stop-leads prepareCourse bootCourse clientCourse wrote (withFailure s y) h
 
 fail-by-leads : (s : Session) (r : CmdResult) (h : Here) → leads (failByPlan s r (h .undo)) h ≡ failsBy r (s .info) (s .books) h
 unfolding failByPlan
 fail-by-leads s r h = fail-leads (bookkeeps s (brokenBy r (s .books))) (failureOf r) h
 
 part-leads : (s : Session) (y : Refusal) (b : Books) (h : Here) → leads (partPlan s y b (h .undo)) h ≡ parted (s .info) (f.By y) c.Clean b h
-part-leads s y b h = z.release-leads prepareCourse bootCourse wrote (givesUp s y b) h
+part-leads s y b h = z.release-leads prepareCourse bootCourse clientCourse wrote (givesUp s y b) h
 
 -- A COMMAND, and what follows it; `i` is what the inbox and outbox hold then
 module _ (s : Session) (st : Boot) (y : Post) (K : CmdResult → Books → Here → Course Rest) (goes : (v : CmdEnd) (j : Here) → afterBoot st (sendsOf s (g.Boot st) y) (e.Cmd v) j ≡ K (v .result) (tookBooks s (e.Cmd v)) j) where
@@ -335,7 +336,7 @@ reset-leads s y h =
 claim-leads : (s : Session) (y : Claimed) (h : Here) → leads (claimPlan s y (h .undo)) h ≡ onClaimed y (s .info) (s .books) h
 unfolding firstReset prepareCourse
 claim-leads s l.Good h = run-turned neither (resetScript rs.started) (λ v. e.Reset v) (afterPrepare p.Reset s) h
-claim-leads s l.Refused h = z.restore-leads prepareCourse bootCourse wrote (givesUp s x.Owner (s .books)) h
+claim-leads s l.Refused h = z.restore-leads prepareCourse bootCourse clientCourse wrote (givesUp s x.Owner (s .books)) h
 
 attr-leads : (s : Session) (y : Attributes) (h : Here) → leads (attrPlan s y (h .undo)) h ≡ onEnabled y (s .info) (s .books) h
 unfolding claim prepareCourse

@@ -36,13 +36,14 @@ use Rattle.uar.specs.Uar.{finding}
 use Rattle.uar.specs.declared.Found.{Found}
 use Rattle.uar.specs.declared.Found.the-variants as u
 use Rattle.work.specs.Work.{looking}
-use Rattle.session.specs.Failures.{failureOf, faultOf, immediateOf, needsReset}
+use Rattle.session.specs.Failures.{brokenBy, failureOf, faultOf, immediateOf, needsReset}
 use Rattle.session.specs.Session.{noBooks, noInfo, wired, broken, immOf, withInOf, withOutOf}
 use Rattle.session.specs.Course.{Course, ret, Here, here, left, Box, inbox, outbox, zeroed, run, task, sends, Rest, atRest}
 use Rattle.session.specs.declared.Books.{Books}
 use Rattle.session.specs.declared.Info.{Info}
 use Rattle.session.specs.declared.Area.{Area}
 use Rattle.session.specs.declared.Area.the-variants as a
+use Rattle.session.specs.declared.Gave.the-variants as v
 use Rattle.session.specs.declared.Stage.the-variants as g
 use Rattle.session.specs.declared.Failure.the-variants as f
 use Rattle.session.specs.declared.Closing.the-variants as c
@@ -75,7 +76,7 @@ holds i h = here i (h .outbox) (h .undo)
 
 -- BRING-UP, from its end. The session is open
 abbrev pub opened : Info → Books → Here → Course Rest
-opened n b h = ret (left h) (atRest g.Open b n f.Nothing c.Clean)
+opened n b h = ret (left h) (atRest (g.Open v.Nothing) b n f.Nothing c.Clean)
 
 unfoldable pub queryAdapter : Info → Books → Here → Course Rest
 queryAdapter n b h = asking 0x006 0 (λ r d j. opened n d j) b h

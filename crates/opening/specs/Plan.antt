@@ -48,7 +48,7 @@ use Rattle.work.specs.Work.{working, workScript}
 use Rattle.work.specs.declared.Task.the-variants as t
 use Rattle.work.specs.declared.End.{End}
 use Rattle.work.specs.declared.End.the-variants as e
-use Rattle.session.specs.Failures.{brokenBy, failureOf, faultOf, immediateOf, needsReset}
+use Rattle.session.specs.Failures.{brokenBy, failureOf, faultOf, immediateOf, madeIn, needsReset}
 use Rattle.session.specs.Session.{session, starts, bookkeeps, informs, sendsOf, tookOf, planned, immOf, withInOf, withOutOf}
 use Rattle.session.specs.Course.{Course, ret, Here, here, left, Box, neither, inbox, outbox, zeroed, run, Rest, atRest}
 use Rattle.session.specs.declared.Hold.the-variants as o
@@ -61,6 +61,7 @@ use Rattle.session.specs.declared.Prepare.{Prepare}
 use Rattle.session.specs.declared.Prepare.the-variants as p
 use Rattle.session.specs.declared.Boot.{Boot}
 use Rattle.session.specs.declared.Boot.the-variants as k
+use Rattle.session.specs.declared.Gave.the-variants as v
 use Rattle.session.specs.declared.Stage.{Stage}
 use Rattle.session.specs.declared.Stage.the-variants as g
 use Rattle.session.specs.declared.Failure.{Failure}
@@ -138,7 +139,7 @@ failByPlan s r top = failPlan (bookkeeps s (brokenBy r (s .books))) (failureOf r
 
 -- BRING-UP
 abbrev pub openedPlan : Session → Top → Planned
-openedPlan s top = planned (session g.Open (working t.Rest (s .work .reset) (s .work .find)) (s .books) (s .info) f.Nothing c.Clean) w.Nothing (top .count)
+openedPlan s top = planned (session (g.Open v.Nothing) (working t.Rest (s .work .reset) (s .work .find)) (s .books) (s .info) f.Nothing c.Clean) w.Nothing (top .count)
 
 abbrev pub askPlan : Session → Boot → (op inMod : ℕ) → Top → Planned
 askPlan s st op i top = planned (sendsOf s (g.Boot st) (withOutOf (s .books .held) op i)) w.Outbox (top .count)
@@ -331,10 +332,11 @@ listsBoot s y k.Adapter = s
 
 abbrev pub listsAt : Session → Listed → Stage → Session
 listsAt s y g.Fresh = s
-listsAt s y g.Open = s
+listsAt s y (g.Open v) = s
 listsAt s y g.Ended = s
 listsAt s y (g.Prepare z) = s
 listsAt s y (g.Boot z) = listsBoot s y z
+listsAt s y (g.Client z) = s
 listsAt s y (g.Close z) = s
 
 abbrev pub lists : Session → Listed → Session

@@ -37,6 +37,7 @@ use session::Boot;
 use session::Closing;
 use session::Failure;
 use session::Fill;
+use session::Gave;
 use session::Held;
 use session::Hold;
 use session::Icm;
@@ -64,7 +65,6 @@ ghost use Rattle.reply.specs.Capability.{capability};
 ghost use Rattle.reply.specs.Replies.{queryFw, queryPort, queryFunc};
 ghost use Rattle.layout.specs.Layout.{laid};
 ghost use Rattle.layout.specs.Counts.{profileOf};
-ghost use Rattle.session.specs.Failures.{brokenBy};
 ghost use Rattle.session.specs.Session.{bookkeeps, planned};
 ghost use Rattle.session.specs.declared.Area.the-variants.{Aux};
 ghost use Rattle.opening.specs.Values as v;
@@ -420,7 +420,7 @@ fn opened(s: Session, top: Top) -> Planned
     };
     plan(
         Session {
-            stage: Stage::Open,
+            stage: Stage::Open(Gave::Nothing),
             work,
             failure: Failure::Nothing,
             closing: Closing::Clean,
@@ -1003,10 +1003,11 @@ pub fn lists(s: Session, y: Listed) -> Session
     let stage = s.stage;
     match stage {
         Stage::Fresh => s,
-        Stage::Open => s,
+        Stage::Open(_) => s,
         Stage::Ended => s,
         Stage::Prepare(_) => s,
         Stage::Boot(b) => list_at(s, b, y),
+        Stage::Client(_) => s,
         Stage::Close(_) => s,
     }
 }

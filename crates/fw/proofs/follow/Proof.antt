@@ -35,6 +35,12 @@ returns-5 c = simp (
 returns-6 : tie.Need-returns-6
 returns-6 c = simp (
   c .before .before .stage3 .given .1,
+  c .served .ensures,
+)
+
+returns-7 : tie.Need-returns-7
+returns-7 c = simp (
+  c .before .before .stage4 .given .1,
   c .closed .ensures,
 )
 
@@ -54,9 +60,12 @@ follow-spec =
     (λ c κs. search needs)
     (λ c. search needs)
     (λ c κs. search needs)
+    (λ c. search needs)
+    (λ c κs. search needs)
     returns
     returns-2
     returns-3
     returns-4
     returns-5
-    returns-6)
+    returns-6
+    returns-7)
