@@ -1,0 +1,25 @@
+use borrow.Author.Needs.{needs}
+use Rattle.calls.proofs.callable.Statement.{statement}
+use Rattle.calls.proofs.callable.Tie as tie
+
+returns : tie.Need-returns
+returns c = simp (
+  ← (c .before .before .is-session .ensures),
+  c .before .if1 .taken,
+  c .is-time .ensures,
+)
+
+returns-2 : tie.Need-returns-2
+returns-2 c = simp (
+  ← (c .before .is-session .ensures),
+  c .if1 .left,
+)
+
+pub callable-spec : {M : Type 1} → statement M
+callable-spec =
+    tie.close
+    (tie.spec
+    (λ c κs. search needs)
+    (λ c κs. search needs)
+    returns
+    returns-2)
