@@ -1,9 +1,9 @@
 // The reader of a reply: it holds the reply's bytes, and answers the field at an offset or refuses with 21. The borrow checker covers no function
 // over such a struct, so each method leaves the work to a function of `fields` on the slice and the offset, and is proved by hand.
+use fields::Read8;
 use fields::Read16;
 use fields::Read32;
 use fields::Read64;
-use fields::Read8;
 ghost use mathlib.Core.Path.{_≡_};
 ghost use Rattle.fields.specs.Fields.{fieldAt, read8, read16, read32, read64};
 ghost use Rattle.fields.specs.declared.Order.the-variants.{Big};
