@@ -43,3 +43,28 @@ impl<'a> Reader<'a> {
         fields::be64(self.reply, off)
     }
 }
+
+// The field at an offset of a reply, through its reader. A caller of these, whose parameter is a plain slice, is covered.
+pub fn byte(reply: &[u8], off: usize) -> Read8
+    ensures { λ r. ⌜ read8 r ≡ fieldAt Big (now (reply .entry)) off 1 ⌝ }
+{
+    Reader::new(reply).u8(off)
+}
+
+pub fn be16(reply: &[u8], off: usize) -> Read16
+    ensures { λ r. ⌜ read16 r ≡ fieldAt Big (now (reply .entry)) off 2 ⌝ }
+{
+    Reader::new(reply).be16(off)
+}
+
+pub fn be32(reply: &[u8], off: usize) -> Read32
+    ensures { λ r. ⌜ read32 r ≡ fieldAt Big (now (reply .entry)) off 4 ⌝ }
+{
+    Reader::new(reply).be32(off)
+}
+
+pub fn be64(reply: &[u8], off: usize) -> Read64
+    ensures { λ r. ⌜ read64 r ≡ fieldAt Big (now (reply .entry)) off 8 ⌝ }
+{
+    Reader::new(reply).be64(off)
+}
