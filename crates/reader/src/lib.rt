@@ -9,7 +9,7 @@ ghost use Rattle.fields.specs.Fields.{fieldAt, read8, read16, read32, read64};
 ghost use Rattle.fields.specs.declared.Order.the-variants.{Big};
 
 pub struct Reader<'a> {
-    pub reply: &'a [u8],
+    reply: &'a [u8],
 }
 
 impl<'a> Reader<'a> {
