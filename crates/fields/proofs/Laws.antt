@@ -135,15 +135,12 @@ length-pick false x y e = refl
 pub length-written : (o : Order) (s : List ℕ) (off w v : ℕ) → length (writtenAt o s off w v) ≡ length s
 length-written o s off w v = length-pick (leb (off + w) (length s)) (putAt o s off w v) s (length-put o s off w v)
 
--- What `field` says of a field that is there and of at most eight bytes: its number, and never 21.
-field-there : (o : Order) (s : List ℕ) (off w : ℕ) → off + w ≤ length s → w ≤ 8 → pick (leb w 8) (fieldAt o s off w) (refused 21 []) ≡ value (numberAt o s off w)
-field-there o s off w h n = rw (le-leb w 8 n) (field-is o s off w h)
+-- What reading says of a field that is there: its number, and never 21.
+pub field-value : (o : Order) (s : List ℕ) (off w v : ℕ) → value v ≡ fieldAt o s off w → off + w ≤ length s → v ≡ numberAt o s off w
+field-value o s off w v e h = let f = e ∙ field-is o s off w h in cc
 
-pub field-value : (o : Order) (s : List ℕ) (off w v : ℕ) → value v ≡ pick (leb w 8) (fieldAt o s off w) (refused 21 []) → off + w ≤ length s → w ≤ 8 → v ≡ numberAt o s off w
-field-value o s off w v e h n = let f = e ∙ field-there o s off w h n in cc
-
-pub field-never-short : (o : Order) (s : List ℕ) (off w : ℕ) → refused 21 [] ≡ pick (leb w 8) (fieldAt o s off w) (refused 21 []) → off + w ≤ length s → w ≤ 8 → ⊥
-field-never-short o s off w e h n = let f = e ∙ field-there o s off w h n in let z : _≡_ {A = ℕ} 0 1 = cc in omega arith
+pub field-never-short : (o : Order) (s : List ℕ) (off w : ℕ) → refused 21 [] ≡ fieldAt o s off w → off + w ≤ length s → ⊥
+field-never-short o s off w e h = let f = e ∙ field-is o s off w h in let z : _≡_ {A = ℕ} 0 1 = cc in omega arith
 
 -- where the field lies within the bytes, it is written
 pub written-is : (o : Order) (s : List ℕ) (off w v : ℕ) → off + w ≤ length s → writtenAt o s off w v ≡ putAt o s off w v

@@ -1,6 +1,8 @@
-// What the card's replies say. A reply is read through its bytes; one too short for its fields is refused with 21.
+// What the card's replies say. A reply is read through a reader over its bytes; one too short for its fields is refused with 21.
 use bars::Size;
-use fields::Order;
+use fields::Read8;
+use fields::Read16;
+use fields::Read32;
 use fields::Read64;
 ghost use mathlib.Core.Bool.{_&&_};
 ghost use mathlib.Core.Path.{_≡_};
@@ -237,36 +239,45 @@ impl DevCap {
     }
 }
 
-// A field that is known to lie within the reply.
-fn known(reply: &[u8], off: usize, width: usize) -> u64
-    requires { ⌜ (off + width ≤ length (now reply)) × (width ≤ 8) ⌝ }
-    ensures { λ r. ⌜ r ≡ be (now (reply .entry)) off width ⌝ }
-{
-    match fields::field(reply, Order::Big, off, width) {
-        Read64::Value(v) => v,
-        Read64::Short => 0,
-    }
-}
-
+// A field that is known to lie within the reply, through the reply's reader.
 fn byte(reply: &[u8], off: usize) -> u8
     requires { ⌜ off + 1 ≤ length (now reply) ⌝ }
     ensures { λ r. ⌜ r ≡ be (now (reply .entry)) off 1 ⌝ }
 {
-    known(reply, off, 1) as u8
+    match reader::byte(reply, off) {
+        Read8::Value(v) => v,
+        Read8::Short => 0,
+    }
 }
 
 fn be16(reply: &[u8], off: usize) -> u16
     requires { ⌜ off + 2 ≤ length (now reply) ⌝ }
     ensures { λ r. ⌜ r ≡ be (now (reply .entry)) off 2 ⌝ }
 {
-    known(reply, off, 2) as u16
+    match reader::be16(reply, off) {
+        Read16::Value(v) => v,
+        Read16::Short => 0,
+    }
 }
 
 fn be32(reply: &[u8], off: usize) -> u32
     requires { ⌜ off + 4 ≤ length (now reply) ⌝ }
     ensures { λ r. ⌜ r ≡ be (now (reply .entry)) off 4 ⌝ }
 {
-    known(reply, off, 4) as u32
+    match reader::be32(reply, off) {
+        Read32::Value(v) => v,
+        Read32::Short => 0,
+    }
+}
+
+fn be64(reply: &[u8], off: usize) -> u64
+    requires { ⌜ off + 8 ≤ length (now reply) ⌝ }
+    ensures { λ r. ⌜ r ≡ be (now (reply .entry)) off 8 ⌝ }
+{
+    match reader::be64(reply, off) {
+        Read64::Value(v) => v,
+        Read64::Short => 0,
+    }
 }
 
 // 2^log, for a log of four bits.
@@ -346,14 +357,14 @@ fn decoded(reply: &[u8], area: u64) -> DevCap
         log_max_qp_wqes: byte(reply, 0x11),
         log_max_cqes: byte(reply, 0x19),
         log_min_page: byte(reply, 0x4b),
-        flags: known(reply, 0x40, 8),
+        flags: be64(reply, 0x40),
         flags2: be32(reply, 0x70),
         bmme: be32(reply, 0x94),
         eth_prot_ctrl: byte(reply, 0x7a) / 32 % 2 == 1,
         eth_backpl_an_rep: be32(reply, 0x9c) % 2 == 1,
         uar_bytes: area,
         entry: entries(reply),
-        max_icm: known(reply, 0xa0, 8),
+        max_icm: be64(reply, 0xa0),
     }
 }
 
@@ -493,7 +504,7 @@ fn fw_info(reply: &[u8], bar: u8) -> FwInfo
         ppf: byte(reply, 0x09),
         rev: be16(reply, 0x0a),
         log_max_cmds: byte(reply, 0x0f),
-        catas_offset: known(reply, 0x30, 8),
+        catas_offset: be64(reply, 0x30),
         catas_size: be32(reply, 0x38),
         catas_bar: catas_bar(byte(reply, 0x3c) / 64 * 2, bar),
     }
@@ -610,7 +621,7 @@ fn port_info(reply: &[u8], num: u8) -> PortInfo
         speed: speed % 16 + speed / 32 % 4 * 32,
         xcvr: be32(reply, 0x18),
         wavelength: be16(reply, 0x1c),
-        xcvr_code: known(reply, 0x20, 8),
+        xcvr_code: be64(reply, 0x20),
     }
 }
 

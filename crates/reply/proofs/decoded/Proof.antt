@@ -17,19 +17,19 @@ be32-requires-3 c κs = omega (arith, c .before .before .before .before .before 
 entries-requires : tie.Need-entries-requires
 entries-requires c κs = omega (arith, c .before .before .before .before .before .before .before .before .before .before .before .before .before .before .before .before .before .before .before .before .before .pre)
 
-known-requires-2 : tie.Need-known-requires-2
-known-requires-2 c κs = omega (arith, c .before .before .before .before .before .before .before .before .before .before .before .before .before .before .before .before .before .before .before .before .before .before .pre)
+be64-requires-2 : tie.Need-be64-requires-2
+be64-requires-2 c κs = omega (arith, c .before .before .before .before .before .before .before .before .before .before .before .before .before .before .before .before .before .before .before .before .before .before .pre)
 
 returns : tie.Need-returns
 returns c =
     simp (
-      c .known2 .ensures,
+      c .be642 .ensures,
       c .before .entries .ensures,
       c .before .before .be323 .ensures,
       c .before .before .before .byte7 .ensures,
       c .before .before .before .before .be322 .ensures,
       c .before .before .before .before .before .be32 .ensures,
-      c .before .before .before .before .before .before .known .ensures,
+      c .before .before .before .before .before .before .be64 .ensures,
       c .before .before .before .before .before .before .before .byte6 .ensures,
       c .before .before .before .before .before .before .before .before .byte5 .ensures,
       c .before .before .before .before .before .before .before .before .before .byte4 .ensures,
@@ -74,5 +74,5 @@ decoded-spec =
     byte-requires-7
     be32-requires-3
     entries-requires
-    known-requires-2
+    be64-requires-2
     returns)

@@ -7,7 +7,7 @@ returns c = simp (
   c .catas-bar .ensures,
   c .before .byte3 .ensures,
   c .before .before .be32 .ensures,
-  c .before .before .before .known .ensures,
+  c .before .before .before .be64 .ensures,
   c .before .before .before .before .byte2 .ensures,
   c .before .before .before .before .before .be165 .ensures,
   c .before .before .before .before .before .before .byte .ensures,

@@ -4,7 +4,7 @@ use Rattle.reply.proofs.port_info.Tie as tie
 
 returns : tie.Need-returns
 returns c = simp (
-  c .known .ensures,
+  c .be64 .ensures,
   c .before .be162 .ensures,
   c .before .before .be32 .ensures,
   c .before .before .before .byte4 .ensures,
