@@ -41,7 +41,7 @@ left-more l n i seen h =
     let same : getD t i none ≡ getD l i none = getD-take n l i none (omega (arith, h)) in
     let next : suc i ≡ i + 1 = omega arith in
     let parted : drop i t ≡ getD l i none ∷ drop (i + 1) t =
-      drop-cons t i none below ∙ ap (λ (u : Undo). u ∷ drop (suc i) t) same ∙ ap (λ (k : ℕ). getD l i none ∷ drop k t) next in
+    drop-cons t i none below ∙ ap (λ (u : Undo). u ∷ drop (suc i) t) same ∙ ap (λ (k : ℕ). getD l i none ∷ drop k t) next in
     or-assoc seen (isReserved (getD l i none .op)) (anyReserved (drop (i + 1) t)) ∙ sym (ap (λ (us : List Undo). seen || anyReserved us) parted)
 
 pub left-last : (l : List Undo) (n i : ℕ) (seen : Bool) → min n (length l) ≤ i → Left l n i seen ≡ seen
