@@ -11,9 +11,12 @@ use Rattle.undo.specs.declared.Undo.{Undo}
 use Rattle.undo.specs.declared.Pushed.{Pushed}
 use Rattle.undo.specs.declared.Pushed.the-variants as v
 
+abbrev pub undoOf : (op opMod inMod inParam : ℕ) → Undo
+undoOf op m n x = record { op = op; «op_mod» = m; «in_mod» = n; «in_param» = x }
+
 -- what stands past the end of a list
 abbrev pub none : Undo
-none = record { op = 0; «op_mod» = 0; «in_mod» = 0; «in_param» = 0 }
+none = undoOf 0 0 0 0
 
 -- THE NEWEST RECORD, as a call takes it: with the count
 abbrev pub topAt : ℕ → Undo → Top

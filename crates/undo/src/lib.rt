@@ -4,8 +4,8 @@ use session::Top;
 ghost use mathlib.Core.Path.{_≡_};
 ghost use Prim.Native.Nat.{_-_, min};
 ghost use mathlib.Core.Bool.{_||_};
-ghost use mathlib.Core.List.{List};
 ghost use lib.ListN.{length, getD, take, drop};
+ghost use Rattle.fields.specs.Outcome.{numberOf};
 ghost use Rattle.hcr.specs.Words.{isReserved};
 ghost use Rattle.undo.specs.List.{none, topBy, topOf, anyReserved, outcome, stored, pushOf, pushedIn};
 
@@ -28,6 +28,20 @@ pub enum Pushed {
     Short,
     Opcode,
     Full,
+}
+
+impl Pushed {
+    // Document 01's number; 0 where the record was pushed.
+    pub fn number(self) -> u32
+        ensures { λ r. ⌜ r ≡ numberOf (outcome self) ⌝ }
+    {
+        match self {
+            Pushed::At(_) => 0,
+            Pushed::Short => 21,
+            Pushed::Opcode => 22,
+            Pushed::Full => 19,
+        }
+    }
 }
 
 // The record at a place; one of zeros past the end.
