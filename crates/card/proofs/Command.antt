@@ -15,6 +15,7 @@ use Rattle.pci.specs.Script.{Script, ask, Bus, good, failed, read, write}
 use Rattle.command.specs.Script.{STALLS, ending, onRead, onWrite, reading, timedOut, words, low, immediate, judged, verdict, poll, writeAll, start, fenced as fencing, command}
 use Rattle.command.specs.declared.Catas.{Catas}
 use Rattle.command.specs.declared.Catas.the-variants.{Known, Unknown}
+use Rattle.command.specs.declared.CmdResult.{CmdResult}
 use Rattle.command.specs.declared.CmdResult.the-variants as r
 use Rattle.command.specs.declared.CmdEnd.{CmdEnd}
 use Rattle.card.specs.Card.{Held, Mail, Command, Card, effect, result, same, ends, goOf, tbitOf, statusOf, written, begin, put, store, take, fenced, Shows, Takes, Host, World, WorldStep, mailAt, IsMap, kind, StandsAt, Posts}
@@ -86,6 +87,24 @@ loose-within p H Q c (inr (h, x, inl y)) = record {
 }
 loose-within p H Q c (inr (h, x, inr y)) =
     record { now = during-result p H h (c .held) (c .status) x (y .2); then = λ q e. absurd (none≢ (y .0) e) }
+
+loose-mine : (p : Command) (H : Held → Type 1) (Q : Command → Type 0) → ((g : Held) → H g → H (effect p g)) → Q p → (c : Card) → Loose p H Q c → Within H Q c
+loose-mine p H Q keeps mine c x = within-more (During p H) H (Or Q p) Q c during (λ q y. ⊎-elim (λ z. z) (λ z. subst Q (sym z) mine) y) (loose-within p H Q c x)
+  where
+    during : (g : Held) → During p H g → H g
+    during g (inl y) = y
+    during g (inr (h, y, e)) = subst H (sym e) (keeps h y)
+
+-- however a command ended: what it leaves of H is in H, and it is one of Q itself
+pub out-within : (p : Command) (H : Held → Type 1) (Q : Command → Type 0) → ((g : Held) → H g → H (effect p g)) → Q p → (a : CmdResult) (c : Card) → Out p H Q a c → Within H Q c
+out-within p H Q keeps mine (r.Done x us) c m = quiet-within H Q c (m .0, after (m .1))
+  where
+    after : (h : Held) × H h × (c .held ≡ effect p h) → H (c .held)
+    after (h, x, e) = subst H (sym e) (keeps h x)
+out-within p H Q keeps mine (r.Status s us) c m = quiet-within H Q c m
+out-within p H Q keeps mine (r.Timeout us) c m = loose-mine p H Q keeps mine c m
+out-within p H Q keeps mine r.Busy c m = m
+out-within p H Q keeps mine (r.Bus us) c m = loose-mine p H Q keeps mine c m
 
 -- THE POSTED-COMMAND LEMMA
 

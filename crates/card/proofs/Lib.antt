@@ -7,3 +7,4 @@ pub mod View
 pub mod Owns
 pub mod Making
 pub mod Once
+pub mod Fixed

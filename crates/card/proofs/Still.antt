@@ -21,7 +21,7 @@ use Rattle.tasks.specs.Attributes.{orRefused, supporting, attributing}
 use Rattle.tasks.specs.declared.Attributes.{Attributes}
 use Rattle.tasks.specs.Claim.{onOwner, claiming}
 use Rattle.tasks.specs.Claim as k
-use Rattle.tasks.specs.Parting.{onDisown, releasing, restoring}
+use Rattle.tasks.specs.Parting.{onDisown, releasing, restoring, quieting, commanding, onCommand}
 use Rattle.uar.specs.Uar as u
 use Rattle.uar.specs.declared.Found.{Found}
 use Rattle.work.specs.Work.{looking}
@@ -143,6 +143,13 @@ looking-still = (tt, λ r. tt)
 pub restoring-still : (v : ℕ) → Stills (restoring v)
 restoring-still v = (tt, λ r. tt)
 
+word-still : (r : Bus ℕ) → Stills (onCommand r)
+word-still (good v) = (tt, λ x. tt)
+word-still failed = tt
+
+commanding-still : Stills commanding
+commanding-still = (tt, word-still)
+
 module _ (i : List ℕ) (I : Card → Type 1) (l : Host) (stable : Stable I) (stores : (c : Card) (o v : ℕ) → I c → I (store c o v)) where
   pub safe-releasing : (w : World) → w .host ≡ l → I (w .card) → Safe i w releasing (λ v r. (v .host ≡ l) × I (v .card))
   safe-releasing w e j = ((let g : 0 < 2 ^ 32 = omega arith in g, λ _ z. absurd (false≢true (eq-eqb 0x8069c 0x80698 z))), at)
@@ -153,3 +160,14 @@ module _ (i : List ℕ) (I : Card → Type 1) (l : Host) (stable : Stable I) (st
       at : (r : Bus (Unit {0})) (v : World) → WorldStep w (write 0 0x8069c 0) r v → Safe i v (onDisown r) (λ u s. (u .host ≡ l) × I (u .card))
       at (good x) v st = (tt, λ r u tick. (tick .1 ∙ st .1 ∙ e, stable (v .card) (u .card) (tick .0) (taken (v .card) (st .0))))
       at failed v st = (st .1 ∙ e, ⊎-elim (λ s. stable (w .card) (v .card) s j) (λ s. taken (v .card) s) (st .0))
+
+  -- a quiesce ends: the owner's register, then the command word
+  pub safe-quieting : (w : World) → w .host ≡ l → I (w .card) → Safe i w quieting (λ v r. (v .host ≡ l) × I (v .card))
+  safe-quieting w e j = ((let g : 0 < 2 ^ 32 = omega arith in g, λ _ z. absurd (false≢true (eq-eqb 0x8069c 0x80698 z))), at)
+    where
+      taken : (d : Card) → Takes (w .card) 0 0x8069c 0 d → I d
+      taken d st = stable (take (st .0) 0 0x8069c 0) d (st .2) (stores (st .0) 0x8069c 0 (stable (w .card) (st .0) (st .1) j))
+
+      at : (r : Bus (Unit {0})) (v : World) → WorldStep w (write 0 0x8069c 0) r v → Safe i v commanding (λ u s. (u .host ≡ l) × I (u .card))
+      at (good x) v st = safe-still i commanding I l v commanding-still stable (st .1 ∙ e) (taken (v .card) (st .0))
+      at failed v st = safe-still i commanding I l v commanding-still stable (st .1 ∙ e) (⊎-elim (λ s. stable (w .card) (v .card) s j) (λ s. taken (v .card) s) (st .0))

@@ -165,6 +165,18 @@ put f n x m = pick (eqb m n) x (f m)
 abbrev pub store : Card → ℕ → ℕ → Card
 store c o v = record { held = c .held; pending = c .pending; last = c .last; status = c .status; registers = put (c .registers) o v; mail = c .mail }
 
+-- "lent pages until CLOSE_HCA succeeds": from when they are lent, the card may use these pages
+abbrev pub lendTo : (ℕ → Type 0) → Card → Card
+lendTo P c =
+    record {
+      held = holds (c .held .icm) (c .held .firmware) (c .held .auxiliary) (λ d. c .held .lent d ⊎ P d);
+      pending = c .pending;
+      last = c .last;
+      status = c .status;
+      registers = c .registers;
+      mail = c .mail;
+    }
+
 -- A write that is taken: 1 at 0xf0010 resets, GO at 0x80680 + 0x18 starts a command, others are stored. The registers are those of BAR 0.
 abbrev pub take : Card → (bar offset value : ℕ) → Card
 take c b o v =

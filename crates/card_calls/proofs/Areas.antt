@@ -99,8 +99,9 @@ module _ (base : ℕ → Option Hold) (P : World → Rest → Type 1)
   -- MAILBOX AFTER MAILBOX
   module _ (e : Area) (n : Info) (l : Host) (b : Books) (i : Entries b) (x : Boxes b l) (next : Books → Here → Course Rest)
       (follows : (y : Wire) (j : Here) (v : World) → Fair j → Ready base (wired b y) v → SafeCourse v (next (wired b y) j) P) where
-    done : (y : Wire) (j : Here) (v : World) → Fair j → v .host ≡ l → Owns base (lendsFrom b 0) (v .host) → Quiet (Knows b) (v .card) → SafeCourse v (next (wired b y) j) P
-    done y j v q d s k = follows y j v q (record {
+    done : (y : Wire) (j : Here) (v : World) → y .silent ≡ false → Fair j → v .host ≡ l → Owns base (lendsFrom b 0) (v .host) → Quiet (Knows b) (v .card) → SafeCourse v (next (wired b y) j) P
+    done y j v z q d s k = follows y j v q (record {
+      loud = z;
       owns = s;
       card = (k .0, record { icm = k .1 .icm; firmware = k .1 .firmware; auxiliary = k .1 .auxiliary; lent = k .1 .lent });
       boxes = record {
@@ -113,22 +114,22 @@ module _ (base : ℕ → Option Hold) (P : World → Rest → Type 1)
         inLess = x .inLess;
         outLess = x .outLess;
       };
-      entries = record { room = i .room; small = i .small; addressed = i .addressed };
+      entries = record { room = i .room; lentRoom = i .lentRoom; small = i .small; addressed = i .addressed };
     })
 
-    safe-mapping : (m : ℕ) (k : Cutter) (y : Wire) (h : Here) (w : World) → k .left ≤ m → Cutting k → Fair h → w .host ≡ l → Owns base (lendsFrom b 0) (w .host) → Quiet (Partly e b k) (w .card)
+    safe-mapping : (m : ℕ) (k : Cutter) (y : Wire) (h : Here) (w : World) → y .silent ≡ false → k .left ≤ m → Cutting k → Fair h → w .host ≡ l → Owns base (lendsFrom b 0) (w .host) → Quiet (Partly e b k) (w .card)
         → SafeCourse w (mapping e next m k n (wired b y) h) P
     unfolding mapping
-    safe-mapping zero k y h w g t q d s u =
-        let z : k .left ≡ 0 = omega (arith, g) in done y h w q d s (u .0, partly-done e b k (w .card .held) t z (u .1))
-    safe-mapping (suc m) k y h w g t q d s u =
+    safe-mapping zero k y h w p g t q d s u =
+        let z : k .left ≡ 0 = omega (arith, g) in done y h w p q d s (u .0, partly-done e b k (w .card .held) t z (u .1))
+    safe-mapping (suc m) k y h w p g t q d s u =
         course-pick (eqb (k .left) 0) _ _ w P
-        (λ z. done y h w q d s (u .0, partly-done e b k (w .card .held) t (eqb-true (k .left) 0 z) (u .1)))
+        (λ z. done y h w p q d s (u .0, partly-done e b k (w .card .held) t (eqb-true (k .left) 0 z) (u .1)))
         (λ z. safe-sends (wired b y) (withInOf (b .held) (opFor e) (length (firstBlocks 63 256 k) % 2 ^ 32))
-        (λ a c j. onGood a (λ f i. mapping e next m (behind 63 256 k) n f i) n c j) (Partly e b k) Calm P (holds (filledAt 63 256 k (h .inbox)) h) w
-        (filled-fair k h q) (fits (filledAt 63 256 k (h .inbox))) (quiet-within (Partly e b k) Calm (w .card) u)
-        (λ v c j o f p. by-result (eqb-false (k .left) 0 z) (λ y j v q d s u. safe-mapping m (behind 63 256 k) y j v (less (eqb-false (k .left) 0 z)) (behind-cutting k t) q d s u)
-        (c .result) (after y c) v j o f p))
+        (λ a c j. onGood a (λ f i. mapping e next m (behind 63 256 k) n f i) n c j) (Partly e b k) (Calm b) P (holds (filledAt 63 256 k (h .inbox)) h) w
+        (filled-fair k h q) (fits (filledAt 63 256 k (h .inbox))) (quiet-within (Partly e b k) (Calm b) (w .card) u)
+        (λ v c j o f u₁. by-result (eqb-false (k .left) 0 z) (λ y j v a q d s u. safe-mapping m (behind 63 256 k) y j v a (less (eqb-false (k .left) 0 z)) (behind-cutting k t) q d s u)
+        (c .result) (after y c) v j p o f u₁))
       where
         less : (k .left ≡ 0 → ⊥) → behind 63 256 k .left ≤ m
         less z = let f = behind-less 255 k z in omega (arith, f, g, z)
@@ -142,28 +143,28 @@ module _ (base : ℕ → Option Hold) (P : World → Rest → Type 1)
         owed f = partly-owed e b k f i
 
         by-result : (k .left ≡ 0 → ⊥)
-            → ((y : Wire) (j : Here) (v : World) → Fair j → v .host ≡ l → Owns base (lendsFrom b 0) (v .host) → Quiet (Partly e b (behind 63 256 k)) (v .card) → SafeCourse v (mapping e next m (behind 63 256 k) n (wired b y) j) P)
-            → (a : CmdResult) (y₁ : Wire) (v : World) (j : Here) → Fair j → v .host ≡ w .host
-            → Out (postedAs (y .toggle) (withInOf (b .held) (opFor e) (length (firstBlocks 63 256 k) % 2 ^ 32)) (mailAt (w .host) (filledAt 63 256 k (h .inbox)))) (Partly e b k) Calm a (v .card)
+            → ((y : Wire) (j : Here) (v : World) → y .silent ≡ false → Fair j → v .host ≡ l → Owns base (lendsFrom b 0) (v .host) → Quiet (Partly e b (behind 63 256 k)) (v .card) → SafeCourse v (mapping e next m (behind 63 256 k) n (wired b y) j) P)
+            → (a : CmdResult) (y₁ : Wire) (v : World) (j : Here) → y₁ .silent ≡ false → Fair j → v .host ≡ w .host
+            → Out (postedAs (y .toggle) (withInOf (b .held) (opFor e) (length (firstBlocks 63 256 k) % 2 ^ 32)) (mailAt (w .host) (filledAt 63 256 k (h .inbox)))) (Partly e b k) (Calm b) a (v .card)
             → SafeCourse v (onGood a (λ f i. mapping e next m (behind 63 256 k) n f i) n (wired b y₁) j) P
-        by-result z again (r.Done imm us) y₁ v j o f u =
-            again y₁ j v o (f ∙ d) (subst (Owns base (lendsFrom b 0)) (sym f) s) (
+        by-result z again (r.Done imm us) y₁ v j l₁ o f u =
+            again y₁ j v l₁ o (f ∙ d) (subst (Owns base (lendsFrom b 0)) (sym f) s) (
               u .0,
               partly-step b k t (postedAs (y .toggle) (withInOf (b .held) (opFor e) (length (firstBlocks 63 256 k) % 2 ^ 32)) (mailAt (w .host) (filledAt 63 256 k (h .inbox)))) refl
                   (filled-is k (h .inbox) (q .inbox)) e refl (v .card .held) (u .1),
             )
-        by-result z again (r.Status n₁ us) y₁ v j o f u =
+        by-result z again (r.Status n₁ us) y₁ v j l₁ o f u =
             safe-failed base P back kept (r.Status n₁ us) (failureOf (r.Status n₁ us)) n b y₁ j v
-            (postedAs (y .toggle) (withInOf (b .held) (opFor e) (length (firstBlocks 63 256 k) % 2 ^ 32)) (mailAt (w .host) (filledAt 63 256 k (h .inbox)))) (Partly e b k) Calm refl o (subst (Owns base (lendsFrom b 0)) (sym f) s) i owed u
-        by-result z again (r.Timeout us) y₁ v j o f u =
+            (postedAs (y .toggle) (withInOf (b .held) (opFor e) (length (firstBlocks 63 256 k) % 2 ^ 32)) (mailAt (w .host) (filledAt 63 256 k (h .inbox)))) (Partly e b k) (Calm b) refl o (subst (Owns base (lendsFrom b 0)) (sym f) s) i l₁ owed u
+        by-result z again (r.Timeout us) y₁ v j l₁ o f u =
             safe-failed base P back kept (r.Timeout us) (failureOf (r.Timeout us)) n b y₁ j v
-            (postedAs (y .toggle) (withInOf (b .held) (opFor e) (length (firstBlocks 63 256 k) % 2 ^ 32)) (mailAt (w .host) (filledAt 63 256 k (h .inbox)))) (Partly e b k) Calm refl o (subst (Owns base (lendsFrom b 0)) (sym f) s) i owed u
-        by-result z again r.Busy y₁ v j o f u =
+            (postedAs (y .toggle) (withInOf (b .held) (opFor e) (length (firstBlocks 63 256 k) % 2 ^ 32)) (mailAt (w .host) (filledAt 63 256 k (h .inbox)))) (Partly e b k) (Calm b) refl o (subst (Owns base (lendsFrom b 0)) (sym f) s) i l₁ owed u
+        by-result z again r.Busy y₁ v j l₁ o f u =
             safe-failed base P back kept r.Busy (failureOf r.Busy) n b y₁ j v
-            (postedAs (y .toggle) (withInOf (b .held) (opFor e) (length (firstBlocks 63 256 k) % 2 ^ 32)) (mailAt (w .host) (filledAt 63 256 k (h .inbox)))) (Partly e b k) Calm refl o (subst (Owns base (lendsFrom b 0)) (sym f) s) i owed u
-        by-result z again (r.Bus us) y₁ v j o f u =
+            (postedAs (y .toggle) (withInOf (b .held) (opFor e) (length (firstBlocks 63 256 k) % 2 ^ 32)) (mailAt (w .host) (filledAt 63 256 k (h .inbox)))) (Partly e b k) (Calm b) refl o (subst (Owns base (lendsFrom b 0)) (sym f) s) i l₁ owed u
+        by-result z again (r.Bus us) y₁ v j l₁ o f u =
             safe-failed base P back kept (r.Bus us) (failureOf (r.Bus us)) n b y₁ j v
-            (postedAs (y .toggle) (withInOf (b .held) (opFor e) (length (firstBlocks 63 256 k) % 2 ^ 32)) (mailAt (w .host) (filledAt 63 256 k (h .inbox)))) (Partly e b k) Calm refl o (subst (Owns base (lendsFrom b 0)) (sym f) s) i owed u
+            (postedAs (y .toggle) (withInOf (b .held) (opFor e) (length (firstBlocks 63 256 k) % 2 ^ 32)) (mailAt (w .host) (filledAt 63 256 k (h .inbox)))) (Partly e b k) (Calm b) refl o (subst (Owns base (lendsFrom b 0)) (sym f) s) i l₁ owed u
 
   -- A BUFFER IN THE BOOKS d, before anything of it is mapped
   pub record Entered (e : Area) (n : Info) (z : Buffer) (b d : Books) (w : World) : Type 1 where
@@ -172,6 +173,7 @@ module _ (base : ℕ → Option Hold) (P : World → Rest → Type 1)
     pub boxes : Boxes d (w .host)
     pub entries : Entries d
     pub cut : Cutting (cutterFor n e z)
+    pub loud : d .wire .silent ≡ b .wire .silent
     pub card : Quiet (Partly e d (cutterFor n e z)) (w .card)
 
   -- what a good making leaves
@@ -198,7 +200,7 @@ module _ (base : ℕ → Option Hold) (P : World → Rest → Type 1)
       at : (v : World) (y : Made) (j : Here) → Fair j → j .inbox ≡ h .inbox → MadePost (h .inbox) base (lendsFrom b 0) (Quiet (Knows b)) (quiet-stable (Knows b)) bound (w .host) bytes v y
           → SafeCourse v (onMade y (λ z. mapping e next (cutterFor n e z .left) (cutterFor n e z) n (enters n e z b) j) (λ f. fails (faultOf f) n b j)) P
       at v (m.Refused f) j k d s =
-          safe-fails base P back kept (faultOf f) n b j v k (s .0) (x .entries) (λ t. (s .1 .0, knows-owed b (v .card .held) (x .entries) (s .1 .1)))
+          safe-fails base P back kept (faultOf f) n b j v k (s .0) (x .entries) (x .loud) (λ t. (s .1 .0, knows-owed b (v .card .held) (x .entries) (s .1 .1)))
       at v (m.Ready z) j k d s = begin (enter z v (record { owns = s .0; card = s .1; pages = s .2; sound = s .3; boxes = boxes }))
         where
           boxes : Boxes b (v .host)
@@ -216,7 +218,7 @@ module _ (base : ℕ → Option Hold) (P : World → Rest → Type 1)
           begin : Entered e n z b (D z) v → SafeCourse v (mapping e next (cutterFor n e z .left) (cutterFor n e z) n (enters n e z b) j) P
           begin t =
               subst (λ (f : Books). SafeCourse v (mapping e next (cutterFor n e z .left) (cutterFor n e z) n f j) P) (sym (t .same))
-              (safe-mapping e n (v .host) (D z) (t .entries) (t .boxes) next (λ y i u a o. follows z y i u (s .2) a o) (cutterFor n e z .left) (cutterFor n e z) (D z .wire) j v
+              (safe-mapping e n (v .host) (D z) (t .entries) (t .boxes) next (λ y i u a o. follows z y i u (s .2) a o) (cutterFor n e z .left) (cutterFor n e z) (D z .wire) j v (t .loud ∙ x .loud)
               (let f : cutterFor n e z .left ≤ cutterFor n e z .left = omega arith in f) (t .cut) k refl (t .owns) (t .card))
 
   -- THE THREE KINDS OF AREA
@@ -257,7 +259,8 @@ module _ (base : ℕ → Option Hold) (P : World → Rest → Type 1)
     same = refl;
     owns = owns-perm base (z ∷ lendsFrom b 0) (lendsFrom (withFa b z) 0) (w .host) (fa-perm b z e) (x .owns);
     boxes = boxed b (withFa b z) w (x .boxes) refl refl;
-    entries = record { room = i .room; small = i .small; addressed = i .addressed };
+    entries = record { room = i .room; lentRoom = i .lentRoom; small = i .small; addressed = i .addressed };
+    loud = refl;
     cut = cut-absent bytes z (x .pages) (x .sound);
     card = (
       x .card .0,
@@ -277,7 +280,8 @@ module _ (base : ℕ → Option Hold) (P : World → Rest → Type 1)
     same = refl;
     owns = owns-perm base (z ∷ lendsFrom b 0) (lendsFrom (withAux b z) 0) (w .host) (aux-perm b z e) (x .owns);
     boxes = boxed b (withAux b z) w (x .boxes) refl refl;
-    entries = record { room = i .room; small = i .small; addressed = i .addressed };
+    entries = record { room = i .room; lentRoom = i .lentRoom; small = i .small; addressed = i .addressed };
+    loud = refl;
     cut = cut-absent bytes z (x .pages) (x .sound);
     card = (
       x .card .0,
@@ -305,6 +309,7 @@ module _ (base : ℕ → Option Hold) (P : World → Rest → Type 1)
         owns = owns-perm base (z ∷ lendsFrom b 0) (lendsFrom (ranged b (entryOf (rangeAt n i .virt) z)) 0) (w .host) (range-perm b j l (entryOf (rangeAt n i .virt) z)) (x .owns);
         boxes = boxed b (ranged b (entryOf (rangeAt n i .virt) z)) w (x .boxes) refl refl;
         entries = ranged-entries b j l (entryOf (rangeAt n i .virt) z) (omega (arith, f .1, place .few)) (omega (arith, place .below));
+        loud = refl;
         cut = cutting (v.At (rangeAt n i .virt)) (z .dev) (z .pages % 2 ^ 52) (place .page) (s .aligned) (device-end z s e)
             (omega (arith, e, f .1, place .few, place .below));
         card = (

@@ -16,7 +16,7 @@ use Rattle.dma.specs.Pages.{table, blocksIn}
 use Rattle.dma.specs.declared.Buffer.{Buffer}
 use Rattle.dma.specs.declared.Cutter.{Cutter}
 use Rattle.dma.specs.PageList.{mailboxOf, firstBlocks, behind}
-use Rattle.session.specs.Session.{books, listing, icmAt, bufferAt, bufferOf, noIcm}
+use Rattle.session.specs.Session.{books, listing, icmAt, bufferAt, bufferOf, noIcm, noBuffer, lentTo}
 use Rattle.session.specs.declared.Hold.{Hold as Slot}
 use Rattle.session.specs.declared.Hold.the-variants as o
 use Rattle.session.specs.declared.Icm.{Icm}
@@ -28,13 +28,13 @@ use Rattle.closing.specs.Closing.{inHold, isHeld, boxes, areas, rangesFrom, len
 use Rattle.opening.specs.Values.{opFor, withFa, withAux, enters, rangeAt}
 use Rattle.card.specs.Card.{Held, Command, Blocks, kind, does, effect, Holds, Meets}
 use Rattle.card.specs.Owns.{InBooks, spotOf}
-use Rattle.card.proofs.Owns.{Perm, keep, swap, join, perm-self, In, in-left, in-right, in-books}
+use Rattle.card.proofs.Owns.{Perm, stop, keep, swap, join, perm-self, In, in-left, in-right, in-books}
 use Rattle.card_calls.specs.Ranges.{OnRange, InRanges}
 use Rattle.card_calls.proofs.Blocks.{Cutting, carries, first-few, first-carried, any-split, none-left}
 use Rattle.card.specs.Known.{After}
 use Rattle.card_calls.specs.Owed.{Dropped, OwedBy}
 use Rattle.card_calls.specs.Ranges.{AnyIn}
-use Rattle.card_calls.specs.Holding.{Ahead, Entries, Knows, Missing, OnSlot, Partly, Posted}
+use Rattle.card_calls.specs.Holding.{Ahead, Entries, Knows, Missing, OnSlot, Partly, Posted, Uses, lents}
 
 slot-held : (s : Slot) (d : ℕ) → OnSlot s d → isHeld s ≡ true
 slot-held o.Absent d z = absurd z
@@ -60,6 +60,17 @@ knows-owed b g i x = record {
   auxiliary = λ d z. slot-held (b .held .aux) d (x .auxiliary d z);
   lent = λ d z. absurd (x .lent d z);
 }
+
+pub uses-owed : (b : Books) (g : Held) → Entries b → b .started ≡ true → Uses b g → OwedBy b g
+uses-owed b g i s x = record {
+  icm = λ y d z. let q = range-dropped b i y d (x .icm y d .0 z) in (q .0, omega (arith, q .1), q .2);
+  firmware = λ d z. slot-held (b .held .fa) d (x .firmware d z);
+  auxiliary = λ d z. slot-held (b .held .aux) d (x .auxiliary d z);
+  lent = λ d z. s;
+}
+
+pub knows-uses : (b : Books) (g : Held) → Knows b g → Uses b g
+knows-uses b g x = record { icm = x .icm; firmware = x .firmware; auxiliary = x .auxiliary; lent = λ d z. absurd (x .lent d z) }
 
 -- nothing is left to cut
 pub partly-done : (e : Area) (b : Books) (k : Cutter) (g : Held) → Cutting k → Posted k → Partly e b k g → Knows b g
@@ -133,11 +144,22 @@ slot-in : (s : Slot) (d : ℕ) → OnSlot s d → (b : Buffer) × In b (inHold s
 slot-in o.Absent d z = absurd z
 slot-in (o.Held b) d z = (b, inl refl, z)
 
-pub knows-bound : (b : Books) (g : Held) → Knows b g → (d : ℕ) → Holds g d → InBooks (lendsFrom b 0) d
-knows-bound b g x d z =
+pub in-books-left : (xs ys : List Buffer) (d : ℕ) → InBooks xs d → InBooks (xs ++ ys) d
+in-books-left [] ys d z = absurd z
+in-books-left (x ∷ xs) ys d (inl z) = inl z
+in-books-left (x ∷ xs) ys d (inr z) = inr (in-books-left xs ys d z)
+
+-- a buffer of an area or a mailbox is among the buffers
+pub in-areas : (b : Books) (c : Buffer) → In c (areas b) → In c (lendsFrom b 0)
+in-areas b c i =
+    in-right c (table (λ k. bufferAt (b .lists .lent) k) 0 (b .lists .lends - 0)) (rangesFrom b 0)
+    (in-right c (table (λ k. bufferOf (icmAt (b .lists .icm) k)) 0 (b .lists .ranges - 0)) (areas b) i)
+
+pub uses-bound : (b : Books) (g : Held) → Uses b g → (d : ℕ) → Holds g d → InBooks (lendsFrom b 0) d
+uses-bound b g x d z =
     ⊎-elim (λ i. ranged (x .icm (i .0) d .0 (i .1)))
     (λ u. ⊎-elim (λ f. held-fa (slot-in (b .held .fa) d (x .firmware d f)))
-    (λ y. ⊎-elim (λ i. held-aux (slot-in (b .held .aux) d (x .auxiliary d i))) (λ l. absurd (x .lent d l)) y) u) z
+    (λ y. ⊎-elim (λ i. held-aux (slot-in (b .held .aux) d (x .auxiliary d i))) (λ l. in-books-left (lents b) (rangesFrom b 0) d (x .lent d l)) y) u) z
   where
     ranged : {y : ℕ} → InRanges b y d → InBooks (lendsFrom b 0) d
     ranged {y = y} (k, l, r) =
@@ -147,17 +169,15 @@ knows-bound b g x d z =
         (in-table (λ k. bufferOf (icmAt (b .lists .icm) k)) 0 (b .lists .ranges - 0) k (let q : k < b .lists .ranges - 0 = omega (arith, l) in q))))
         (subst (λ (m : ℕ). Meets (spotOf (bufferOf (icmAt (b .lists .icm) m))) d) (let e : k ≡ 0 + k = omega arith in e) (range-meets (icmAt (b .lists .icm) k) y d r))
 
-    deep : (c : Buffer) → In c (areas b) → In c (lendsFrom b 0)
-    deep c i =
-        in-right c (table (λ k. bufferAt (b .lists .lent) k) 0 (b .lists .lends - 0)) (rangesFrom b 0)
-        (in-right c (table (λ k. bufferOf (icmAt (b .lists .icm) k)) 0 (b .lists .ranges - 0)) (areas b) i)
-
     held-aux : (c : Buffer) × In c (inHold (b .held .aux)) × Meets (spotOf c) d → InBooks (lendsFrom b 0) d
-    held-aux (c, i, m) = in-books c (lendsFrom b 0) d (deep c (in-left c (inHold (b .held .aux)) (inHold (b .held .fa) ++ boxes b) i)) m
+    held-aux (c, i, m) = in-books c (lendsFrom b 0) d (in-areas b c (in-left c (inHold (b .held .aux)) (inHold (b .held .fa) ++ boxes b) i)) m
 
     held-fa : (c : Buffer) × In c (inHold (b .held .fa)) × Meets (spotOf c) d → InBooks (lendsFrom b 0) d
     held-fa (c, i, m) =
-        in-books c (lendsFrom b 0) d (deep c (in-right c (inHold (b .held .aux)) (inHold (b .held .fa) ++ boxes b) (in-left c (inHold (b .held .fa)) (boxes b) i))) m
+        in-books c (lendsFrom b 0) d (in-areas b c (in-right c (inHold (b .held .aux)) (inHold (b .held .fa) ++ boxes b) (in-left c (inHold (b .held .fa)) (boxes b) i))) m
+
+pub knows-bound : (b : Books) (g : Held) → Knows b g → (d : ℕ) → Holds g d → InBooks (lendsFrom b 0) d
+knows-bound b g x d z = uses-bound b g (knows-uses b g x) d z
 
 -- A BUFFER ENTERS THE BOOKS: it was made last, and is freed in its place
 perm-into : {A : Type 0} (x : A) (ls ys zs : List A) → Perm (x ∷ ys) zs → Perm (x ∷ (ls ++ ys)) (ls ++ zs)
@@ -179,6 +199,16 @@ aux-perm b x e =
     (perm-into x (table (λ k. bufferOf (icmAt (b .lists .icm) k)) 0 (b .lists .ranges - 0)) _ _
     (slot-perm x (b .held .aux) (inHold (b .held .fa) ++ boxes b) e))
 
+-- the same pages, in whatever order
+pub books-perm : (xs ys : List Buffer) → Perm xs ys → (d : ℕ) → InBooks xs d → InBooks ys d
+books-perm _ _ stop d z = z
+books-perm _ _ (keep x xs ys p) d (inl z) = inl z
+books-perm _ _ (keep x xs ys p) d (inr z) = inr (books-perm xs ys p d z)
+books-perm _ _ (swap x y xs) d (inl z) = inr (inl z)
+books-perm _ _ (swap x y xs) d (inr (inl z)) = inl z
+books-perm _ _ (swap x y xs) d (inr (inr z)) = inr (inr z)
+books-perm _ _ (join xs ys zs p q) d z = books-perm ys zs q d (books-perm xs ys p d z)
+
 -- the books with one range more
 abbrev pub entryOf : (virt : ℕ) → Buffer → Icm
 entryOf virt x = record { virt = virt; handle = x .handle; dev = x .dev; pages = x .pages }
@@ -190,6 +220,31 @@ pub range-enters : (n : Info) (i : ℕ) (x : Buffer) (b : Books) → b .lists .r
 range-enters n i x b l =
     ap (λ (t : Bool). listing b (pick t (record { icm = set (b .lists .icm) (b .lists .ranges) (entryOf (rangeAt n i .virt) x); ranges = b .lists .ranges + 1; lent = b .lists .lent; lends = b .lists .lends }) (b .lists)))
     (lt-ltb (b .lists .ranges) 14 l)
+
+-- a list with one place more in use, as a table
+table-snoc : {A : Type 0} (f : ℕ → A) (j m : ℕ) → table f j (m + 1) ≡ table f j m ++ (f (j + m) ∷ [])
+unfolding table
+table-snoc f j zero = ap (λ (k : ℕ). f k ∷ []) (let q : j ≡ j + 0 = omega arith in q)
+table-snoc f j (suc m) =
+    ap (table f j) (let q : suc m + 1 ≡ suc (m + 1) = omega arith in q)
+    ∙ ap (λ (xs : List _). f j ∷ xs) (table-snoc f (suc j) m ∙ ap (λ (k : ℕ). table f (suc j) m ++ (f k ∷ [])) (let q : suc j + m ≡ j + suc m = omega arith in q))
+
+module _ {A : Type 0} (f : A → Buffer) (z : A) (xs : List A) (r : ℕ) (e : A) (room : r < length xs) where
+  kept-place : (k : ℕ) → k < r → getD (set xs r e) k z ≡ getD xs k z
+  kept-place k h = getD-set-other xs r k e z (λ q. let y : ⊥ = omega (arith, h, q) in y)
+
+  table-same : (j m : ℕ) → j + m ≤ r → table (λ k. f (getD (set xs r e) k z)) j m ≡ table (λ k. f (getD xs k z)) j m
+  unfolding table
+  table-same j zero h = refl
+  table-same j (suc m) h =
+      ap₂ (λ (x : Buffer) (ys : List Buffer). x ∷ ys) (ap f (kept-place j (let q : j < r = omega (arith, h) in q))) (table-same (suc j) m (let q : suc j + m ≤ r = omega (arith, h) in q))
+
+  table-grown : table (λ k. f (getD (set xs r e) k z)) 0 (r + 1 - 0) ≡ table (λ k. f (getD xs k z)) 0 (r - 0) ++ (f e ∷ [])
+  table-grown =
+      ap (table (λ k. f (getD (set xs r e) k z)) 0) (let q : r + 1 - 0 ≡ (r - 0) + 1 = omega arith in q)
+      ∙ table-snoc (λ k. f (getD (set xs r e) k z)) 0 (r - 0)
+      ∙ ap₂ (λ (ys zs : List Buffer). ys ++ zs) (table-same 0 (r - 0) (let q : 0 + (r - 0) ≤ r = omega arith in q))
+      (ap (λ (y : A). f y ∷ []) (ap (λ (k : ℕ). getD (set xs r e) k z) (let q : 0 + (r - 0) ≡ r = omega arith in q) ∙ getD-set-same xs r e z room))
 
 module _ (b : Books) (i : Entries b) (l : b .lists .ranges < 14) (e : Icm) where
   abbrev r : ℕ
@@ -221,6 +276,7 @@ module _ (b : Books) (i : Entries b) (l : b .lists .ranges < 14) (e : Icm) where
   pub ranged-entries : e .pages < 2 ^ 32 → e .virt < 2 ^ 64 → Entries (ranged b e)
   ranged-entries s v = record {
     room = length-set icms r e ∙ i .room;
+    lentRoom = i .lentRoom;
     small = each-range (λ k y. y .pages < 2 ^ 32) (i .small) s;
     addressed = each-range (λ k y. y .virt < 2 ^ 64) (i .addressed) v;
   }
@@ -235,26 +291,8 @@ module _ (b : Books) (i : Entries b) (l : b .lists .ranges < 14) (e : Icm) where
   pub in-either : (x d : ℕ) → InRanges (ranged b e) x d → InRanges b x d ⊎ OnRange e x d
   in-either x d (k, h, z) = each-range (λ k y. OnRange y x d → InRanges b x d ⊎ OnRange e x d) (λ k g y. inl (k, g, y)) (λ y. inr y) k h z
 
-  table-same : (n : ℕ) (j m : ℕ) → j + m ≤ n → n ≤ r → table (λ k. bufferOf (icmAt (set icms r e) k)) j m ≡ table (λ k. bufferOf (icmAt icms k)) j m
-  unfolding table
-  table-same n j zero h g = refl
-  table-same n j (suc m) h g =
-      ap₂ (λ (x : Buffer) (xs : List Buffer). x ∷ xs) (ap bufferOf (old-entry j (let q : j < r = omega (arith, h, g) in q)))
-      (table-same n (suc j) m (let q : suc j + m ≤ n = omega (arith, h) in q) g)
-
-  table-snoc : {A : Type 0} (f : ℕ → A) (j m : ℕ) → table f j (m + 1) ≡ table f j m ++ (f (j + m) ∷ [])
-  unfolding table
-  table-snoc f j zero = ap (λ (k : ℕ). f k ∷ []) (let q : j ≡ j + 0 = omega arith in q)
-  table-snoc f j (suc m) =
-      ap (table f j) (let q : suc m + 1 ≡ suc (m + 1) = omega arith in q)
-      ∙ ap (λ (xs : List _). f j ∷ xs) (table-snoc f (suc j) m ∙ ap (λ (k : ℕ). table f (suc j) m ++ (f k ∷ [])) (let q : suc j + m ≡ j + suc m = omega arith in q))
-
   longer : table (λ k. bufferOf (icmAt (set icms r e) k)) 0 (r + 1 - 0) ≡ table (λ k. bufferOf (icmAt icms k)) 0 (r - 0) ++ (bufferOf e ∷ [])
-  longer =
-      ap (table (λ k. bufferOf (icmAt (set icms r e) k)) 0) (let q : r + 1 - 0 ≡ (r - 0) + 1 = omega arith in q)
-      ∙ table-snoc (λ k. bufferOf (icmAt (set icms r e) k)) 0 (r - 0)
-      ∙ ap₂ (λ (xs ys : List Buffer). xs ++ ys) (table-same r 0 (r - 0) (let q : 0 + (r - 0) ≤ r = omega arith in q) (let q : r ≤ r = omega arith in q))
-      (ap (λ (y : Icm). bufferOf y ∷ []) (ap (icmAt (set icms r e)) (let q : 0 + (r - 0) ≡ r = omega arith in q) ∙ new-entry))
+  longer = table-grown bufferOf noIcm icms r e (let h : r < length icms = omega (arith, l, i .room) in h)
 
   pub range-perm : Perm (bufferOf e ∷ lendsFrom b 0) (lendsFrom (ranged b e) 0)
   range-perm =
@@ -262,3 +300,32 @@ module _ (b : Books) (i : Entries b) (l : b .lists .ranges < 14) (e : Icm) where
       (subst (λ (xs : List Buffer). Perm (bufferOf e ∷ rangesFrom b 0) xs)
       (sym (ap (λ (xs : List Buffer). xs ++ areas b) longer ∙ append-assoc (table (λ k. bufferOf (icmAt icms k)) 0 (r - 0)) (bufferOf e ∷ []) (areas b)))
       (perm-into (bufferOf e) (table (λ k. bufferOf (icmAt icms k)) 0 (r - 0)) (areas b) (bufferOf e ∷ areas b) (perm-self (bufferOf e ∷ areas b))))
+
+-- the books with one lent buffer more
+abbrev pub lentIn : Books → Buffer → Books
+lentIn b x = listing b (record { icm = b .lists .icm; ranges = b .lists .ranges; lent = set (b .lists .lent) (b .lists .lends) x; lends = b .lists .lends + 1 })
+
+pub lends-enters : (b : Books) (x : Buffer) → b .lists .lends < 64 → lentTo x b ≡ lentIn b x
+lends-enters b x l = ap (λ (t : Bool). pick t (lentIn b x) b) (lt-ltb (b .lists .lends) 64 l)
+
+module _ (b : Books) (i : Entries b) (l : b .lists .lends < 64) (x : Buffer) where
+  lents-grown : lents (lentIn b x) ≡ lents b ++ (x ∷ [])
+  lents-grown = table-grown (λ (y : Buffer). y) noBuffer (b .lists .lent) (b .lists .lends) x (let h : b .lists .lends < length (b .lists .lent) = omega (arith, l, i .lentRoom) in h)
+
+  pub lent-perm : Perm (x ∷ lendsFrom b 0) (lendsFrom (lentIn b x) 0)
+  lent-perm =
+      subst (λ (xs : List Buffer). Perm (x ∷ lendsFrom b 0) xs)
+      (sym (ap (λ (xs : List Buffer). xs ++ rangesFrom b 0) lents-grown ∙ append-assoc (lents b) (x ∷ []) (rangesFrom b 0)))
+      (perm-into x (lents b) (rangesFrom b 0) (x ∷ rangesFrom b 0) (perm-self (x ∷ rangesFrom b 0)))
+
+  pub lent-entries : Entries (lentIn b x)
+  lent-entries = record { room = i .room; lentRoom = length-set (b .lists .lent) (b .lists .lends) x ∙ i .lentRoom; small = i .small; addressed = i .addressed }
+
+  pub lent-old : (d : ℕ) → InBooks (lents b) d → InBooks (lents (lentIn b x)) d
+  lent-old d z = subst (λ (xs : List Buffer). InBooks xs d) (sym lents-grown) (in-books-left (lents b) (x ∷ []) d z)
+
+  pub lent-new : (d : ℕ) → Meets (spotOf x) d → InBooks (lents (lentIn b x)) d
+  lent-new d z = subst (λ (xs : List Buffer). InBooks xs d) (sym lents-grown) (in-books x (lents b ++ (x ∷ [])) d (in-right x (lents b) (x ∷ []) (inl refl)) z)
+
+  pub all-old : (d : ℕ) → InBooks (lendsFrom b 0) d → InBooks (lendsFrom (lentIn b x) 0) d
+  all-old d z = books-perm (x ∷ lendsFrom b 0) (lendsFrom (lentIn b x) 0) lent-perm d (inr z)

@@ -28,7 +28,7 @@ use Rattle.session.specs.declared.Stage.the-variants as g
 use Rattle.session.specs.declared.Failure.{Failure}
 use Rattle.session.specs.declared.Closing.{Closing}
 use Rattle.session.specs.declared.Closing.the-variants as c
-use Rattle.closing.specs.Closing.{isHeld, lendsFrom, emptied, undoPost, popped, UNDOS, restored, parted, freed, giving, resetting, stopped, onward, unmapFa, unmapAux, unmapping, closeHca, undoing, stopping}
+use Rattle.closing.specs.Closing.{isHeld, lendsFrom, emptied, undoPost, popped, UNDOS, restored, parted, freed, giving, resetting, failing, stopped, onward, unmapFa, unmapAux, unmapping, closeHca, undoing, stopping}
 use Rattle.card.specs.Card.{Held, Command, Card, Mail, Other, kind, does, effect, IsMap, Hold, Host, World, mailAt, store}
 use Rattle.card.specs.Owns.{Owns}
 use Rattle.card.proofs.Command.{quiet-stable, quiet-within}
@@ -110,7 +110,7 @@ unreserved-other n e =
     let o = outside n reservedOps (or-right (ltb 0xfff n) (isIn n reservedOps) e) in
     rw (o .1 .1 .1 .1 .1 .1 .1 .1 .1 .1 .0, o .1 .1 .1 .1 .1 .1 .1 .1 .1 .0, o .1 .1 .1 .1 .1 .1 .1 .0, o .1 .1 .1 .1 .1 .1 .0, o .1 .1 .1 .1 .1 .0, o .1 .1 .1 .1 .0, o .1 .0) refl
 
-fits-undo : (u : Top) (m : Mail) → Typed u → isReserved (u .op) ≡ false → Fits (undoPost u) m
+pub fits-undo : (u : Top) (m : Mail) → Typed u → isReserved (u .op) ≡ false → Fits (undoPost u) m
 fits-undo u m t e = record {
   op = unreserved-small (u .op) e;
   opMod = t .opMod;
@@ -120,8 +120,11 @@ fits-undo u m t e = record {
   addressed = λ z. absurd (subst IsMap (unreserved-other (u .op) e) z);
 }
 
-fits-imm : (op n x : ℕ) (m : Mail) → op < 0x1000 → (IsMap (kind op) → ⊥) → n < 2 ^ 32 → x < 2 ^ 64 → Fits (immOf op 0 n x) m
+pub fits-imm : (op n x : ℕ) (m : Mail) → op < 0x1000 → (IsMap (kind op) → ⊥) → n < 2 ^ 32 → x < 2 ^ 64 → Fits (immOf op 0 n x) m
 fits-imm op n x m a never b d = record { op = a; opMod = omega arith; inMod = b; inParam = d; outParam = omega arith; addressed = λ z. absurd (never z) }
+
+pub popped-fair : (h : Here) → Fair h → Fair (here (h .inbox) (h .outbox) (popped (h .undo)))
+popped-fair h q = record { inbox = q .inbox; outbox = q .outbox; undo = record { opMod = q .undo .opMod; inMod = q .undo .inMod; inParam = q .undo .inParam } }
 
 -- a closing that gives back is not one that keeps
 pub clean-differs : c.Clean ≡ c.Kept → ⊥
@@ -195,109 +198,112 @@ module _ (n : Info) (f : Failure) (P : World → Rest → Type 1) where
       quiet-stoppable : (H : Held → Type 1) (y : Wire) (k : Card) → Quiet H k → Stoppable H y k
       quiet-stoppable H y k x = (quiet-within H (λ p. Unit {0}) k x, λ e. x .0)
 
+      -- a closing is not silent: it resets where a command failed
+      safe-failing : (b : Books) (h : Here) (w : World) → b .wire .silent ≡ false → Fair h → w .host ≡ l → Owns base (lendsFrom b 0) (w .host) → SafeCourse w (failing n f b h) P
+      unfolding failing
+      safe-failing b h w s q e o = course-pick (b .wire .silent) _ _ w P (λ t. absurd (false≢true (sym s ∙ t))) (λ t. safe-resetting b h w q e o)
+
       -- a command of the closing: where it was good the next follows, and else the reset
-      sent : (p : Post) (H G : Held → Type 1) (next : Books → Here → Course Rest) (b : Books) (h : Here) (w : World) → Fair h → w .host ≡ l → Owns base (lendsFrom b 0) (w .host)
+      sent : (p : Post) (H G : Held → Type 1) (next : Books → Here → Course Rest) (b : Books) (h : Here) (w : World) → b .wire .silent ≡ false → Fair h → w .host ≡ l → Owns base (lendsFrom b 0) (w .host)
           → Fits p (mailAt (w .host) (h .inbox)) → Within H (λ q. Unit {0}) (w .card)
           → ((k : Held) → After (postedAs (b .wire .toggle) p (mailAt (w .host) (h .inbox))) H k → G k)
-          → ((y : Wire) (j : Here) (v : World) → Fair j → v .host ≡ l → Owns base (lendsFrom b 0) (v .host) → Quiet G (v .card) → SafeCourse v (next (wired b y) j) P)
+          → ((y : Wire) (j : Here) (v : World) → y .silent ≡ false → Fair j → v .host ≡ l → Owns base (lendsFrom b 0) (v .host) → Quiet G (v .card) → SafeCourse v (next (wired b y) j) P)
           → SafeCourse w (sends b p (onward n f next) h) P
-      sent p H G next b h w q e o fits x gives follows =
+      sent p H G next b h w s₀ q e o fits x gives follows =
           safe-sends b p (onward n f next) H (λ y. Unit {0}) P h w q fits x
-          (λ v a j k d m. by-result (a .result) (after (b .wire) a) v j k d m)
+          (λ v a j k d m. by-result (a .result) (after (b .wire) a) v j s₀ k d m)
         where
-          by-result : (a : CmdResult) (y : Wire) (v : World) (j : Here) → Fair j → v .host ≡ w .host → Out (postedAs (b .wire .toggle) p (mailAt (w .host) (h .inbox))) H (λ y. Unit {0}) a (v .card)
+          by-result : (a : CmdResult) (y : Wire) (v : World) (j : Here) → y .silent ≡ false → Fair j → v .host ≡ w .host → Out (postedAs (b .wire .toggle) p (mailAt (w .host) (h .inbox))) H (λ y. Unit {0}) a (v .card)
               → SafeCourse v (onward n f next a (wired b y) j) P
-          by-result (r.Done z us) y v j k d m = follows y j v k (d ∙ e) (subst (Owns base (lendsFrom b 0)) (sym d) o) (m .0, gives (v .card .held) (m .1))
-          by-result (r.Status s us) y v j k d m = safe-resetting (wired b y) j v k (d ∙ e) (subst (Owns base (lendsFrom b 0)) (sym d) o)
-          by-result (r.Timeout us) y v j k d m = safe-resetting (wired b y) j v k (d ∙ e) (subst (Owns base (lendsFrom b 0)) (sym d) o)
-          by-result r.Busy y v j k d m = safe-resetting (wired b y) j v k (d ∙ e) (subst (Owns base (lendsFrom b 0)) (sym d) o)
-          by-result (r.Bus us) y v j k d m = safe-resetting (wired b y) j v k (d ∙ e) (subst (Owns base (lendsFrom b 0)) (sym d) o)
+          by-result (r.Done z us) y v j s₁ k d m = follows y j v s₁ k (d ∙ e) (subst (Owns base (lendsFrom b 0)) (sym d) o) (m .0, gives (v .card .held) (m .1))
+          by-result (r.Status s us) y v j s₁ k d m = safe-failing (wired b y) j v s₁ k (d ∙ e) (subst (Owns base (lendsFrom b 0)) (sym d) o)
+          by-result (r.Timeout us) y v j s₁ k d m = safe-failing (wired b y) j v s₁ k (d ∙ e) (subst (Owns base (lendsFrom b 0)) (sym d) o)
+          by-result r.Busy y v j s₁ k d m = safe-failing (wired b y) j v s₁ k (d ∙ e) (subst (Owns base (lendsFrom b 0)) (sym d) o)
+          by-result (r.Bus us) y v j s₁ k d m = safe-failing (wired b y) j v s₁ k (d ∙ e) (subst (Owns base (lendsFrom b 0)) (sym d) o)
 
       -- THE STEPS, from the last to the first
-      safe-stopped : (b : Books) (h : Here) (w : World) → Fair h → w .host ≡ l → Owns base (lendsFrom b 0) (w .host) → Stoppable (Owed (b .lists .icm) false 0 false false) (b .wire) (w .card)
+      safe-stopped : (b : Books) (h : Here) (w : World) → b .wire .silent ≡ false → Fair h → w .host ≡ l → Owns base (lendsFrom b 0) (w .host) → Stoppable (Owed (b .lists .icm) false 0 false false) (b .wire) (w .card)
           → SafeCourse w (stopped n f b h) P
       unfolding stopped
-      safe-stopped b h w q e o x =
-          course-pick (b .wire .running) _ _ w P (λ t. safe-resetting b h w q e o)
-          (λ t. safe-giving c.Clean b h w clean-differs q o (x .1 t, owed-none (b .lists .icm) (w .card .held) (x .0 .now)))
+      safe-stopped b h w l₁ q e o x =
+          course-pick (b .wire .silent) _ _ w P (λ t. absurd (false≢true (sym l₁ ∙ t)))
+          (λ s. course-pick (b .wire .running) _ _ w P (λ t. safe-resetting b h w q e o)
+          (λ t. safe-giving c.Clean b h w clean-differs q o (x .1 t, owed-none (b .lists .icm) (w .card .held) (x .0 .now))))
 
-      safe-unmap-fa : (b : Books) (h : Here) (w : World) → Fair h → w .host ≡ l → Owns base (lendsFrom b 0) (w .host)
+      safe-unmap-fa : (b : Books) (h : Here) (w : World) → b .wire .silent ≡ false → Fair h → w .host ≡ l → Owns base (lendsFrom b 0) (w .host)
           → Stoppable (Owed (b .lists .icm) false 0 false (isHeld (b .held .fa))) (b .wire) (w .card) → SafeCourse w (unmapFa n f b h) P
       unfolding unmapFa
-      safe-unmap-fa b h w q e o x = by-held (isHeld (b .held .fa)) x
+      safe-unmap-fa b h w l₁ q e o x = by-held (isHeld (b .held .fa)) x
         where
           by-held : (t : Bool) → Stoppable (Owed (b .lists .icm) false 0 false t) (b .wire) (w .card)
               → SafeCourse w (pick t (sends b (immOf 0xffe 0 0 0) (onward n f (stopped n f)) h) (stopped n f b h)) P
           by-held true x =
-              sent (immOf 0xffe 0 0 0) (Owed (b .lists .icm) false 0 false true) (Owed (b .lists .icm) false 0 false false) (stopped n f) b h w q e o
+              sent (immOf 0xffe 0 0 0) (Owed (b .lists .icm) false 0 false true) (Owed (b .lists .icm) false 0 false false) (stopped n f) b h w l₁ q e o
               (fits-imm 0xffe 0 0 _ (omega arith) (λ z. z) (omega arith) (omega arith)) (x .0) (owed-fa (b .lists .icm) _ refl)
-              (λ y j v k d u z. safe-stopped (wired b y) j v k d u (quiet-stoppable (Owed (b .lists .icm) false 0 false false) y (v .card) z))
-          by-held false x = safe-stopped b h w q e o x
+              (λ y j v i k d u z. safe-stopped (wired b y) j v i k d u (quiet-stoppable (Owed (b .lists .icm) false 0 false false) y (v .card) z))
+          by-held false x = safe-stopped b h w l₁ q e o x
 
-      safe-unmap-aux : (b : Books) (h : Here) (w : World) → Fair h → w .host ≡ l → Owns base (lendsFrom b 0) (w .host)
+      safe-unmap-aux : (b : Books) (h : Here) (w : World) → b .wire .silent ≡ false → Fair h → w .host ≡ l → Owns base (lendsFrom b 0) (w .host)
           → Stoppable (Owed (b .lists .icm) false 0 (isHeld (b .held .aux)) (isHeld (b .held .fa))) (b .wire) (w .card) → SafeCourse w (unmapAux n f b h) P
       unfolding unmapAux
-      safe-unmap-aux b h w q e o x = by-held (isHeld (b .held .aux)) x
+      safe-unmap-aux b h w l₁ q e o x = by-held (isHeld (b .held .aux)) x
         where
           by-held : (t : Bool) → Stoppable (Owed (b .lists .icm) false 0 t (isHeld (b .held .fa))) (b .wire) (w .card)
               → SafeCourse w (pick t (sends b (immOf 0xffb 0 0 0) (onward n f (unmapFa n f)) h) (unmapFa n f b h)) P
           by-held true x =
-              sent (immOf 0xffb 0 0 0) (Owed (b .lists .icm) false 0 true (isHeld (b .held .fa))) (Owed (b .lists .icm) false 0 false (isHeld (b .held .fa))) (unmapFa n f) b h w q e o
+              sent (immOf 0xffb 0 0 0) (Owed (b .lists .icm) false 0 true (isHeld (b .held .fa))) (Owed (b .lists .icm) false 0 false (isHeld (b .held .fa))) (unmapFa n f) b h w l₁ q e o
               (fits-imm 0xffb 0 0 _ (omega arith) (λ z. z) (omega arith) (omega arith)) (x .0) (owed-aux (b .lists .icm) _ (isHeld (b .held .fa)) refl)
-              (λ y j v k d u z. safe-unmap-fa (wired b y) j v k d u (quiet-stoppable (Owed (b .lists .icm) false 0 false (isHeld (b .held .fa))) y (v .card) z))
-          by-held false x = safe-unmap-fa b h w q e o x
+              (λ y j v i k d u z. safe-unmap-fa (wired b y) j v i k d u (quiet-stoppable (Owed (b .lists .icm) false 0 false (isHeld (b .held .fa))) y (v .card) z))
+          by-held false x = safe-unmap-fa b h w l₁ q e o x
 
       -- the card addresses of the ranges have 64 bits
       abbrev pub Addressed : Books → Type 0
       Addressed b = (k : ℕ) → k < b .lists .ranges → icmAt (b .lists .icm) k .virt < 2 ^ 64
 
-      safe-unmapping : (i : ℕ) (b : Books) (h : Here) (w : World) → ((k : ℕ) → k < i → icmAt (b .lists .icm) k .virt < 2 ^ 64) → Fair h → w .host ≡ l → Owns base (lendsFrom b 0) (w .host)
+      safe-unmapping : (i : ℕ) (b : Books) (h : Here) (w : World) → ((k : ℕ) → k < i → icmAt (b .lists .icm) k .virt < 2 ^ 64) → b .wire .silent ≡ false → Fair h → w .host ≡ l → Owns base (lendsFrom b 0) (w .host)
           → Stoppable (Owed (b .lists .icm) false i (isHeld (b .held .aux)) (isHeld (b .held .fa))) (b .wire) (w .card) → SafeCourse w (unmapping n f i b h) P
       unfolding unmapping
-      safe-unmapping zero b h w a q e o x = safe-unmap-aux b h w q e o x
-      safe-unmapping (suc i) b h w a q e o x =
+      safe-unmapping zero b h w a l₁ q e o x = safe-unmap-aux b h w l₁ q e o x
+      safe-unmapping (suc i) b h w a l₁ q e o x =
           sent (immOf 0xff9 0 (icmAt (b .lists .icm) i .pages % 2 ^ 32) (icmAt (b .lists .icm) i .virt)) (Owed (b .lists .icm) false (suc i) (isHeld (b .held .aux)) (isHeld (b .held .fa)))
-          (Owed (b .lists .icm) false i (isHeld (b .held .aux)) (isHeld (b .held .fa))) (unmapping n f i) b h w q e o
+          (Owed (b .lists .icm) false i (isHeld (b .held .aux)) (isHeld (b .held .fa))) (unmapping n f i) b h w l₁ q e o
           (fits-imm 0xff9 (icmAt (b .lists .icm) i .pages % 2 ^ 32) (icmAt (b .lists .icm) i .virt) _ (omega arith) (λ z. z) (let g : icmAt (b .lists .icm) i .pages % 2 ^ 32 < 2 ^ 32 = omega arith in g)
           (a i (let g : i < suc i = omega arith in g))) (x .0)
           (owed-unmap (b .lists .icm) _ i (isHeld (b .held .aux)) (isHeld (b .held .fa)) refl refl refl)
-          (λ y j v k d u z. safe-unmapping i (wired b y) j v (λ m less. a m (let g : m < suc i = omega (arith, less) in g)) k d u
+          (λ y j v i₁ k d u z. safe-unmapping i (wired b y) j v (λ m less. a m (let g : m < suc i = omega (arith, less) in g)) i₁ k d u
           (quiet-stoppable (Owed (b .lists .icm) false i (isHeld (b .held .aux)) (isHeld (b .held .fa))) y (v .card) z))
 
-      safe-close-hca : (b : Books) (h : Here) (w : World) → Addressed b → Fair h → w .host ≡ l → Owns base (lendsFrom b 0) (w .host) → Stoppable (OwedBy b) (b .wire) (w .card)
+      safe-close-hca : (b : Books) (h : Here) (w : World) → Addressed b → b .wire .silent ≡ false → Fair h → w .host ≡ l → Owns base (lendsFrom b 0) (w .host) → Stoppable (OwedBy b) (b .wire) (w .card)
           → SafeCourse w (closeHca n f b h) P
       unfolding closeHca
-      safe-close-hca b h w a q e o x = by-started (b .started) x
+      safe-close-hca b h w a l₁ q e o x = by-started (b .started) x
         where
           by-started : (t : Bool) → Stoppable (Owed (b .lists .icm) t (b .lists .ranges) (isHeld (b .held .aux)) (isHeld (b .held .fa))) (b .wire) (w .card)
               → SafeCourse w (pick t (sends b (immOf 0x008 0 0 0) (onward n f (unmapping n f (b .lists .ranges))) h) (unmapping n f (b .lists .ranges) b h)) P
           by-started true x =
               sent (immOf 0x008 0 0 0) (Owed (b .lists .icm) true (b .lists .ranges) (isHeld (b .held .aux)) (isHeld (b .held .fa)))
-              (Owed (b .lists .icm) false (b .lists .ranges) (isHeld (b .held .aux)) (isHeld (b .held .fa))) (unmapping n f (b .lists .ranges)) b h w q e o
+              (Owed (b .lists .icm) false (b .lists .ranges) (isHeld (b .held .aux)) (isHeld (b .held .fa))) (unmapping n f (b .lists .ranges)) b h w l₁ q e o
               (fits-imm 0x008 0 0 _ (omega arith) (λ z. z) (omega arith) (omega arith)) (x .0)
               (owed-close (b .lists .icm) _ true (b .lists .ranges) (isHeld (b .held .aux)) (isHeld (b .held .fa)) refl)
-              (λ y j v k d u z. safe-unmapping (b .lists .ranges) (wired b y) j v a k d u
+              (λ y j v i k d u z. safe-unmapping (b .lists .ranges) (wired b y) j v a i k d u
               (quiet-stoppable (Owed (b .lists .icm) false (b .lists .ranges) (isHeld (b .held .aux)) (isHeld (b .held .fa))) y (v .card) z))
-          by-started false x = safe-unmapping (b .lists .ranges) b h w a q e o x
+          by-started false x = safe-unmapping (b .lists .ranges) b h w a l₁ q e o x
 
-      popped-fair : (h : Here) → Fair h → Fair (here (h .inbox) (h .outbox) (popped (h .undo)))
-      popped-fair h q = record { inbox = q .inbox; outbox = q .outbox; undo = record { opMod = q .undo .opMod; inMod = q .undo .inMod; inParam = q .undo .inParam } }
-
-      safe-undoing : (more : ℕ) (b : Books) (h : Here) (w : World) → Addressed b → Fair h → w .host ≡ l → Owns base (lendsFrom b 0) (w .host) → Stoppable (OwedBy b) (b .wire) (w .card)
+      safe-undoing : (more : ℕ) (b : Books) (h : Here) (w : World) → Addressed b → b .wire .silent ≡ false → Fair h → w .host ≡ l → Owns base (lendsFrom b 0) (w .host) → Stoppable (OwedBy b) (b .wire) (w .card)
           → SafeCourse w (undoing n f more b h) P
       unfolding undoing
-      safe-undoing zero b h w a q e o x = course-pick (eqb (h .undo .count) 0) _ _ w P (λ t. safe-close-hca b h w a q e o x) (λ t. safe-resetting b h w q e o)
-      safe-undoing (suc m) b h w a q e o x =
-          course-pick (eqb (h .undo .count) 0) _ _ w P (λ t. safe-close-hca b h w a q e o x)
-          (λ t. course-pick (isReserved (h .undo .op)) _ _ w P (λ d. safe-resetting b h w q e o)
-          (λ d. sent (undoPost (h .undo)) (OwedBy b) (OwedBy b) (undoing n f m) b (here (h .inbox) (h .outbox) (popped (h .undo))) w (popped-fair h q) e o
+      safe-undoing zero b h w a l₁ q e o x = course-pick (eqb (h .undo .count) 0) _ _ w P (λ t. safe-close-hca b h w a l₁ q e o x) (λ t. safe-failing b h w l₁ q e o)
+      safe-undoing (suc m) b h w a l₁ q e o x =
+          course-pick (eqb (h .undo .count) 0) _ _ w P (λ t. safe-close-hca b h w a l₁ q e o x)
+          (λ t. course-pick (isReserved (h .undo .op)) _ _ w P (λ d. safe-failing b h w l₁ q e o)
+          (λ d. sent (undoPost (h .undo)) (OwedBy b) (OwedBy b) (undoing n f m) b (here (h .inbox) (h .outbox) (popped (h .undo))) w l₁ (popped-fair h q) e o
           (fits-undo (h .undo) _ (q .undo) d) (x .0)
           (owed-other (b .lists .icm) _ (b .started) (b .lists .ranges) (isHeld (b .held .aux)) (isHeld (b .held .fa)) (unreserved-other (h .undo .op) d))
-          (λ y j v k s u z. safe-undoing m (wired b y) j v a k s u (quiet-stoppable (OwedBy b) y (v .card) z))))
+          (λ y j v i k s u z. safe-undoing m (wired b y) j v a i k s u (quiet-stoppable (OwedBy b) y (v .card) z))))
 
       -- CLOSING
-      pub safe-stopping : (b : Books) (h : Here) (w : World) → Addressed b → Fair h → w .host ≡ l → Owns base (lendsFrom b 0) (w .host)
+      pub safe-stopping : (b : Books) (h : Here) (w : World) → Addressed b → Fair h → w .host ≡ l → Owns base (lendsFrom b 0) (w .host) → (b .wire .broken ≡ false → b .wire .silent ≡ false)
           → (b .wire .broken ≡ false → Stoppable (OwedBy b) (b .wire) (w .card)) → SafeCourse w (stopping n f b h) P
       unfolding stopping
-      safe-stopping b h w a q e o x =
-          course-pick (b .wire .broken) _ _ w P (λ t. safe-resetting b h w q e o) (λ t. safe-undoing UNDOS b h w a q e o (x t))
+      safe-stopping b h w a q e o l₁ x =
+          course-pick (b .wire .broken) _ _ w P (λ t. safe-resetting b h w q e o) (λ t. safe-undoing UNDOS b h w a (l₁ t) q e o (x t))

@@ -1,10 +1,10 @@
 -- The commands of an opening: what is known before and after each, and that a failure leads into a closing that keeps to the card rules.
 use Prim.Native.Nat.{ℕ, _^_, _<_}
 use native.Mathlib.Omega.{arith}
-use mathlib.Core.Bool.{true, false, false≢true}
-use mathlib.Core.List.{List, []}
+use mathlib.Core.Bool.{Bool, true, false, false≢true}
+use mathlib.Core.List.{List, [], _++_}
 use mathlib.Core.Logic.{_⊎_, inl, inr, ⊎-elim}
-use mathlib.Core.Option.{Option}
+use mathlib.Core.Option.{Option, some}
 use mathlib.Core.Path.{_≡_, refl, sym, _∙_, ap, subst}
 use Rattle.fields.specs.Outcome.{Outcome, value, refused, pick}
 use Rattle.hcr.specs.declared.Post.{Post}
@@ -23,20 +23,24 @@ use Rattle.session.specs.declared.Failure.{Failure}
 use Rattle.session.specs.declared.Failure.the-variants as f
 use Rattle.session.specs.declared.Closing.{Closing}
 use Rattle.session.specs.declared.Closing.the-variants as c
-use Rattle.closing.specs.Closing.{isDone, lendsFrom, emptied, stopping}
+use Rattle.closing.specs.Closing.{isDone, inHold, boxes, lendsFrom, emptied, stopping}
 use Rattle.opening.specs.Values.{refusalOf}
 use Rattle.opening.specs.Opening.{fails, onValue}
-use Rattle.card.specs.Card.{Held, Command, Card, Mail, Other, kind, IsMap, StandsAt, Hold, Host, World, mailAt}
-use Rattle.card.specs.Owns.{Owns}
-use Rattle.card.proofs.Command.{quiet-within, within-more, loose-within}
+use Rattle.pci.specs.Script.{Spot}
+use Rattle.dma.specs.declared.Buffer.{Buffer}
+use Rattle.session.specs.declared.Hold.{Hold as Slot}
+use Rattle.card.specs.Card.{Held, Command, Card, Mail, Other, kind, effect, IsMap, StandsAt, OnBox, Hold, Host, World, mailAt}
+use Rattle.card.specs.Owns.{Owns, InBooks, spotOf}
+use Rattle.card.proofs.Owns.{In, in-left, in-right, in-books}
+use Rattle.card.proofs.Command.{quiet-within, out-within}
 use Rattle.card.proofs.View.{other-effect}
 use Rattle.card_calls.proofs.Courses.{Fair, safe-sends}
 use Rattle.card_calls.proofs.Closing.{safe-stopping}
-use Rattle.card_calls.proofs.Books.{knows-owed}
+use Rattle.card_calls.proofs.Books.{knows-owed, in-areas}
 use Rattle.card_calls.specs.SafeCourse.{SafeCourse}
-use Rattle.card.specs.Known.{During, Empty, Fits, Loose, Or, Out, Quiet, Within, postedAs}
+use Rattle.card.specs.Known.{After, Empty, Fits, Out, Quiet, Within, postedAs}
 use Rattle.card_calls.specs.Owed.{OwedBy}
-use Rattle.card_calls.specs.Holding.{Boxes, Calm, Entries, Knows, Ready}
+use Rattle.card_calls.specs.Holding.{Boxes, Calm, Mine, Entries, Knows, Ready}
 
 -- COMMANDS THAT FIT
 module _ (b : Books) (k : Host) (x : Boxes b k) where
@@ -70,39 +74,59 @@ pub fits-imm : (op y : ℕ) (m : Mail) → op < 0x1000 → kind op ≡ Other →
 fits-imm op y m h e l = record { op = h; opMod = omega arith; inMod = omega arith; inParam = l; outParam = omega arith; addressed = λ z. absurd (subst IsMap e z) }
 
 -- what a command of no effect leaves of what is held
-pub calm-kept : (p : Command) (H : Held → Type 1) → Calm p → (k : Held) → During p H k → H k
-calm-kept p H e k (inl x) = x
-calm-kept p H e k (inr (h, x, q)) = subst H (sym (q ∙ other-effect p h e)) x
+pub calm-kept : (p : Command) (H : Held → Type 1) → kind (p .opcode) ≡ Other → (k : Held) → H k → H (effect p k)
+calm-kept p H e k x = subst H (sym (other-effect p k e)) x
 
-pub calm-within : (p : Command) (H : Held → Type 1) (k : Card) → Calm p → Loose p H Calm k → Within H Calm k
-calm-within p H k e x = within-more (During p H) H (Or Calm p) Calm k (calm-kept p H e) (λ q y. ⊎-elim (λ z. z) (λ z. subst Calm (sym z) e) y) (loose-within p H Calm k x)
+-- the mailboxes are among the buffers, and a command of no MAP carries nothing else
+pub own-mine : (b : Books) (k : Host) (x : Boxes b k) (t : Bool) (p : Post) (i : List ℕ) → (IsMap (kind (p .op)) → ⊥) → Mine b (postedAs t p (mailAt k i))
+own-mine b k x t p i free = λ d z. ⊎-elim (λ y. boxed d (x .inbox) (k .inbox) (x .inAt) in-box y) (λ u. ⊎-elim (λ y. boxed d (x .outbox) (k .outbox) (x .outAt) out-box y) (λ y. absurd (free (y .0))) u) z
+  where
+    boxed : (d : ℕ) (c : Buffer) (o : Option Spot) → o ≡ some (spotOf c) → In c (lendsFrom b 0) → OnBox o d → InBooks (lendsFrom b 0) d
+    boxed d c o q m y = in-books c (lendsFrom b 0) d m (subst (λ (z : Option Spot). OnBox z d) q y)
+
+    in-box : In (x .inbox) (lendsFrom b 0)
+    in-box =
+        in-areas b (x .inbox) (in-right (x .inbox) (inHold (b .held .aux)) (inHold (b .held .fa) ++ boxes b) (in-right (x .inbox) (inHold (b .held .fa)) (boxes b)
+        (in-left (x .inbox) (inHold (b .held .inbox)) (inHold (b .held .outbox)) (subst (λ (s : Slot). In (x .inbox) (inHold s)) (sym (x .inHeld)) (inl refl)))))
+
+    out-box : In (x .outbox) (lendsFrom b 0)
+    out-box =
+        in-areas b (x .outbox) (in-right (x .outbox) (inHold (b .held .aux)) (inHold (b .held .fa) ++ boxes b) (in-right (x .outbox) (inHold (b .held .fa)) (boxes b)
+        (in-right (x .outbox) (inHold (b .held .inbox)) (inHold (b .held .outbox)) (subst (λ (s : Slot). In (x .outbox) (inHold s)) (sym (x .outHeld)) (inl refl)))))
+
+pub own-calm : (b : Books) (k : Host) (x : Boxes b k) (t : Bool) (p : Post) (i : List ℕ) → kind (p .op) ≡ Other → Calm b (postedAs t p (mailAt k i))
+own-calm b k x t p i e = (e, own-mine b k x t p i (λ z. subst IsMap e z))
+
+pub calm-within : (b : Books) (p : Command) (H : Held → Type 1) (a : CmdResult) (k : Card) → Calm b p → Out p H (Calm b) a k → Within H (Calm b) k
+calm-within b p H a k e x = out-within p H (Calm b) (calm-kept p H (e .0)) e a k x
 
 -- THE OPENING'S ENDS: `back` and `kept` are what is to hold when all was given back, and when all was kept
 module _ (base : ℕ → Option Hold) (P : World → Rest → Type 1)
     (back : (n : Info) (y : Failure) (x : Closing) (b : Books) (v : World) → (x ≡ c.Kept → ⊥) → Owns base [] (v .host) → Quiet Empty (v .card) → P v (atRest g.Ended b n y x))
     (kept : (n : Info) (y : Failure) (b : Books) (v : World) → Owns base (lendsFrom b 0) (v .host) → P v (atRest g.Ended b n y c.Kept)) where
   -- the opening fails: closing runs
-  pub safe-fails : (y : Refusal) (n : Info) (b : Books) (h : Here) (w : World) → Fair h → Owns base (lendsFrom b 0) (w .host) → Entries b
+  pub safe-fails : (y : Refusal) (n : Info) (b : Books) (h : Here) (w : World) → Fair h → Owns base (lendsFrom b 0) (w .host) → Entries b → b .wire .silent ≡ false
       → (b .wire .broken ≡ false → Quiet (OwedBy b) (w .card)) → SafeCourse w (fails y n b h) P
-  safe-fails y n b h w q x i k =
-      safe-stopping n (f.By y) P base (w .host) (λ z d v e s t. back n (f.By y) z (emptied d) v e s t) (λ d v s t. kept n (f.By y) d v s) b h w (i .addressed) q refl x
+  safe-fails y n b h w q x i l k =
+      safe-stopping n (f.By y) P base (w .host) (λ z d v e s t. back n (f.By y) z (emptied d) v e s t) (λ d v s t. kept n (f.By y) d v s) b h w (i .addressed) q refl x (λ t. l)
       (λ t. (quiet-within (OwedBy b) (λ p. Unit {0}) (w .card) (k t), λ e. k t .0))
 
   -- by a command that was not good: but for a status the session is broken, and nothing need be known of the card
   pub safe-failed : (a : CmdResult) (z : Refusal) (n : Info) (b : Books) (y : Wire) (h : Here) (v : World) (p : Command) (H : Held → Type 1) (Q : Command → Type 0) → isDone a ≡ false → Fair h
-      → Owns base (lendsFrom b 0) (v .host) → Entries b → ((k : Held) → H k → OwedBy b k) → Out p H Q a (v .card) → SafeCourse v (fails z n (brokenBy a (wired b y)) h) P
-  safe-failed (r.Done x us) z n b y h v p H Q e q s i owed m = absurd (false≢true (sym e))
-  safe-failed (r.Status x us) z n b y h v p H Q e q s i owed m = safe-fails z n (wired b y) h v q s i' (λ t. (m .0, owed (v .card .held) (m .1)))
+      → Owns base (lendsFrom b 0) (v .host) → Entries b → y .silent ≡ false → ((k : Held) → H k → OwedBy b k) → Out p H Q a (v .card) → SafeCourse v (fails z n (brokenBy a (wired b y)) h) P
+  safe-failed (r.Done x us) z n b y h v p H Q e q s i l owed m = absurd (false≢true (sym e))
+  safe-failed (r.Status x us) z n b y h v p H Q e q s i l owed m = safe-fails z n (wired b y) h v q s i' l (λ t. (m .0, owed (v .card .held) (m .1)))
     where
       i' : Entries (wired b y)
-      i' = record { room = i .room; small = i .small; addressed = i .addressed }
-  safe-failed (r.Timeout us) z n b y h v p H Q e q s i owed m = safe-fails z n (wired (wired b y) (broken y)) h v q s (record { room = i .room; small = i .small; addressed = i .addressed }) (λ t. absurd (false≢true (sym t)))
-  safe-failed r.Busy z n b y h v p H Q e q s i owed m = safe-fails z n (wired (wired b y) (broken y)) h v q s (record { room = i .room; small = i .small; addressed = i .addressed }) (λ t. absurd (false≢true (sym t)))
-  safe-failed (r.Bus us) z n b y h v p H Q e q s i owed m = safe-fails z n (wired (wired b y) (broken y)) h v q s (record { room = i .room; small = i .small; addressed = i .addressed }) (λ t. absurd (false≢true (sym t)))
+      i' = record { room = i .room; lentRoom = i .lentRoom; small = i .small; addressed = i .addressed }
+  safe-failed (r.Timeout us) z n b y h v p H Q e q s i l owed m = safe-fails z n (wired (wired b y) (broken y)) h v q s (record { room = i .room; lentRoom = i .lentRoom; small = i .small; addressed = i .addressed }) l (λ t. absurd (false≢true (sym t)))
+  safe-failed r.Busy z n b y h v p H Q e q s i l owed m = safe-fails z n (wired (wired b y) (broken y)) h v q s (record { room = i .room; lentRoom = i .lentRoom; small = i .small; addressed = i .addressed }) l (λ t. absurd (false≢true (sym t)))
+  safe-failed (r.Bus us) z n b y h v p H Q e q s i l owed m = safe-fails z n (wired (wired b y) (broken y)) h v q s (record { room = i .room; lentRoom = i .lentRoom; small = i .small; addressed = i .addressed }) l (λ t. absurd (false≢true (sym t)))
 
   -- the state is the same whatever the command register is like
-  rewired : (b : Books) (y : Wire) (w v : World) → Ready base b w → v .host ≡ w .host → Quiet (Knows b) (v .card) → Ready base (wired b y) v
-  rewired b y w v x e k = record {
+  rewired : (b : Books) (y : Wire) (w v : World) → Ready base b w → y .silent ≡ false → v .host ≡ w .host → Quiet (Knows b) (v .card) → Ready base (wired b y) v
+  rewired b y w v x l e k = record {
+    loud = l;
     owns = subst (Owns base (lendsFrom b 0)) (sym e) (x .owns);
     card = (k .0, record { icm = k .1 .icm; firmware = k .1 .firmware; auxiliary = k .1 .auxiliary; lent = k .1 .lent });
     boxes = record {
@@ -115,11 +139,11 @@ module _ (base : ℕ → Option Hold) (P : World → Rest → Type 1)
       inLess = x .boxes .inLess;
       outLess = x .boxes .outLess;
     };
-    entries = record { room = x .entries .room; small = x .entries .small; addressed = x .entries .addressed };
+    entries = record { room = x .entries .room; lentRoom = x .entries .lentRoom; small = x .entries .small; addressed = x .entries .addressed };
   }
 
   pub ready-fails : (y : Refusal) (n : Info) (b : Books) (h : Here) (w : World) → Fair h → Ready base b w → SafeCourse w (fails y n b h) P
-  ready-fails y n b h w q x = safe-fails y n b h w q (x .owns) (x .entries) (λ t. (x .card .0, knows-owed b (w .card .held) (x .entries) (x .card .1)))
+  ready-fails y n b h w q x = safe-fails y n b h w q (x .owns) (x .entries) (x .loud) (λ t. (x .card .0, knows-owed b (w .card .held) (x .entries) (x .card .1)))
 
   -- a reply or a layout that is refused
   pub ready-value : {A : Type 0} (z : Outcome A) (k : A → Course Rest) (n : Info) (b : Books) (h : Here) (w : World) → Fair h → Ready base b w → ((y : A) → z ≡ value y → SafeCourse w (k y) P)
@@ -130,20 +154,29 @@ module _ (base : ℕ → Option Hold) (P : World → Rest → Type 1)
   -- A COMMAND OF NO EFFECT: its end is seen, and all is as it was; or not
   pub safe-other : (p : Post) → kind (p .op) ≡ Other → (K : CmdResult → Books → Here → Course Rest) (b : Books) (h : Here) (w : World) → Fair h → Fits p (mailAt (w .host) (h .inbox)) → Ready base b w
       → ((a : CmdResult) (y : Wire) (j : Here) (v : World) → Fair j → endSeen a ≡ true → Ready base (wired b y) v → SafeCourse v (K a (wired b y) j) P)
-      → ((a : CmdResult) (e : CmdEnd) (j : Here) (v : World) → Fair j → e .result ≡ a → endSeen a ≡ false → v .host ≡ w .host → Within (Knows b) Calm (v .card)
-      → Out (postedAs (b .wire .toggle) p (mailAt (w .host) (h .inbox))) (Knows b) Calm a (v .card) → SafeCourse v (K a (wired b (after (b .wire) e)) j) P)
+      → ((a : CmdResult) (e : CmdEnd) (j : Here) (v : World) → Fair j → e .result ≡ a → endSeen a ≡ false → v .host ≡ w .host → Within (Knows b) (Calm b) (v .card)
+      → Out (postedAs (b .wire .toggle) p (mailAt (w .host) (h .inbox))) (Knows b) (Calm b) a (v .card) → SafeCourse v (K a (wired b (after (b .wire) e)) j) P)
       → SafeCourse w (sends b p K h) P
   safe-other p o K b h w q fits x seen unseen =
-      safe-sends b p K (Knows b) Calm P h w q fits (quiet-within (Knows b) Calm (w .card) (x .card)) (λ v a j k d m. by-result (a .result) a v j refl k d m)
+      safe-sends b p K (Knows b) (Calm b) P h w q fits (quiet-within (Knows b) (Calm b) (w .card) (x .card)) (λ v a j k d m. by-result (a .result) a v j refl k d m)
     where
-      by-result : (a : CmdResult) (e : CmdEnd) (v : World) (j : Here) → e .result ≡ a → Fair j → v .host ≡ w .host → Out (postedAs (b .wire .toggle) p (mailAt (w .host) (h .inbox))) (Knows b) Calm a (v .card)
+      sent : Command
+      sent = postedAs (b .wire .toggle) p (mailAt (w .host) (h .inbox))
+
+      within : (a : CmdResult) (k : Card) → Out sent (Knows b) (Calm b) a k → Within (Knows b) (Calm b) k
+      within a k m = calm-within b sent (Knows b) a k (own-calm b (w .host) (x .boxes) (b .wire .toggle) p (h .inbox) o) m
+
+      kept-by : (k : Held) → After sent (Knows b) k → Knows b k
+      kept-by k (g, y, e) = subst (Knows b) (sym (e ∙ other-effect sent g o)) y
+
+      by-result : (a : CmdResult) (e : CmdEnd) (v : World) (j : Here) → e .result ≡ a → Fair j → v .host ≡ w .host → Out (postedAs (b .wire .toggle) p (mailAt (w .host) (h .inbox))) (Knows b) (Calm b) a (v .card)
           → SafeCourse v (K a (wired b (after (b .wire) e)) j) P
       by-result (r.Done z us) e v j t k d m =
-          seen (r.Done z us) (after (b .wire) e) j v k refl (rewired b (after (b .wire) e) w v x d (m .0, calm-kept (postedAs (b .wire .toggle) p (mailAt (w .host) (h .inbox))) (Knows b) o (v .card .held) (inr (m .1))))
-      by-result (r.Status s us) e v j t k d m = seen (r.Status s us) (after (b .wire) e) j v k refl (rewired b (after (b .wire) e) w v x d m)
-      by-result (r.Timeout us) e v j t k d m = unseen (r.Timeout us) e j v k t refl d (calm-within (postedAs (b .wire .toggle) p (mailAt (w .host) (h .inbox))) (Knows b) (v .card) o m) m
+          seen (r.Done z us) (after (b .wire) e) j v k refl (rewired b (after (b .wire) e) w v x (x .loud) d (m .0, kept-by (v .card .held) (m .1)))
+      by-result (r.Status s us) e v j t k d m = seen (r.Status s us) (after (b .wire) e) j v k refl (rewired b (after (b .wire) e) w v x (x .loud) d m)
+      by-result (r.Timeout us) e v j t k d m = unseen (r.Timeout us) e j v k t refl d (within (r.Timeout us) (v .card) m) m
       by-result r.Busy e v j t k d m = unseen r.Busy e j v k t refl d m m
-      by-result (r.Bus us) e v j t k d m = unseen (r.Bus us) e j v k t refl d (calm-within (postedAs (b .wire .toggle) p (mailAt (w .host) (h .inbox))) (Knows b) (v .card) o m) m
+      by-result (r.Bus us) e v j t k d m = unseen (r.Bus us) e j v k t refl d (within (r.Bus us) (v .card) m) m
 
   -- where it was good, what follows; else the opening fails
   pub safe-good : (p : Post) → kind (p .op) ≡ Other → (z : CmdResult → Refusal) (next : CmdResult → Books → Here → Course Rest) (n : Info) (b : Books) (h : Here) (w : World) → Fair h
@@ -164,13 +197,13 @@ module _ (base : ℕ → Option Hold) (P : World → Rest → Type 1)
       seen (r.Bus us) y j v k t d = absurd (false≢true t)
 
       unseen : (a : CmdResult) (e : CmdEnd) (j : Here) (v : World) → Fair j → endSeen a ≡ false → v .host ≡ w .host
-          → Out (postedAs (b .wire .toggle) p (mailAt (w .host) (h .inbox))) (Knows b) Calm a (v .card)
+          → Out (postedAs (b .wire .toggle) p (mailAt (w .host) (h .inbox))) (Knows b) (Calm b) a (v .card)
           → SafeCourse v (pick (isDone a) (next a (wired b (after (b .wire) e)) j) (fails (z a) n (brokenBy a (wired b (after (b .wire) e))) j)) P
       unseen (r.Done s us) e j v k t d m = absurd (false≢true (sym t))
       unseen (r.Status s us) e j v k t d m = absurd (false≢true (sym t))
       unseen (r.Timeout us) e j v k t d m =
-          safe-failed (r.Timeout us) (z (r.Timeout us)) n b (after (b .wire) e) j v (postedAs (b .wire .toggle) p (mailAt (w .host) (h .inbox))) (Knows b) Calm refl k (subst (Owns base (lendsFrom b 0)) (sym d) (x .owns)) (x .entries) (λ g. knows-owed b g (x .entries)) m
+          safe-failed (r.Timeout us) (z (r.Timeout us)) n b (after (b .wire) e) j v (postedAs (b .wire .toggle) p (mailAt (w .host) (h .inbox))) (Knows b) (Calm b) refl k (subst (Owns base (lendsFrom b 0)) (sym d) (x .owns)) (x .entries) (x .loud) (λ g. knows-owed b g (x .entries)) m
       unseen r.Busy e j v k t d m =
-          safe-failed r.Busy (z r.Busy) n b (after (b .wire) e) j v (postedAs (b .wire .toggle) p (mailAt (w .host) (h .inbox))) (Knows b) Calm refl k (subst (Owns base (lendsFrom b 0)) (sym d) (x .owns)) (x .entries) (λ g. knows-owed b g (x .entries)) m
+          safe-failed r.Busy (z r.Busy) n b (after (b .wire) e) j v (postedAs (b .wire .toggle) p (mailAt (w .host) (h .inbox))) (Knows b) (Calm b) refl k (subst (Owns base (lendsFrom b 0)) (sym d) (x .owns)) (x .entries) (x .loud) (λ g. knows-owed b g (x .entries)) m
       unseen (r.Bus us) e j v k t d m =
-          safe-failed (r.Bus us) (z (r.Bus us)) n b (after (b .wire) e) j v (postedAs (b .wire .toggle) p (mailAt (w .host) (h .inbox))) (Knows b) Calm refl k (subst (Owns base (lendsFrom b 0)) (sym d) (x .owns)) (x .entries) (λ g. knows-owed b g (x .entries)) m
+          safe-failed (r.Bus us) (z (r.Bus us)) n b (after (b .wire) e) j v (postedAs (b .wire .toggle) p (mailAt (w .host) (h .inbox))) (Knows b) (Calm b) refl k (subst (Owns base (lendsFrom b 0)) (sym d) (x .owns)) (x .entries) (x .loud) (λ g. knows-owed b g (x .entries)) m

@@ -30,7 +30,7 @@ pub record Fair (h : Here) : Type 0 where
 pub fair-lent : (h : Here) (m : Lent) → Fair h → Lendable m → Fair (lent h m)
 fair-lent h m f l = record { inbox = f .inbox; outbox = l .outbox; undo = l .undo }
 
-zeros : (n k : ℕ) → getD (replicate n 0) k 0 < 256
+pub zeros : (n k : ℕ) → getD (replicate n 0) k 0 < 256
 zeros zero k = let g : 0 < 256 = omega arith in g
 zeros (suc n) zero = let g : 0 < 256 = omega arith in g
 zeros (suc n) (suc k) = zeros n k

@@ -3,5 +3,9 @@ pub mod Closing
 pub mod Blocks
 pub mod Books
 pub mod Commands
+pub mod Idle
 pub mod Areas
 pub mod Opening
+pub mod Quiet
+pub mod Client
+pub mod Calm

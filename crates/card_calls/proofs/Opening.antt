@@ -59,6 +59,7 @@ use Rattle.session.specs.declared.Wire.{Wire}
 use Rattle.session.specs.declared.Books.{Books}
 use Rattle.session.specs.declared.Info.{Info}
 use Rattle.session.specs.declared.Area.the-variants as a
+use Rattle.session.specs.declared.Gave.the-variants as gv
 use Rattle.session.specs.declared.Stage.the-variants as g
 use Rattle.session.specs.declared.Failure.{Failure}
 use Rattle.session.specs.declared.Failure.the-variants as f
@@ -69,7 +70,7 @@ use Rattle.opening.specs.Values.{fwFailureOf, layoutIn, rangeAt, noRange, withT
 use Rattle.opening.specs.Opening.{failsBy, onValue, holds, onMade, opened, queryAdapter, queryFunc, initHca, areaFor, mapIcm, setIcmSize, layingOut, queryPorts, portsOf, queryDevCap, modStat, runFw, fwReply, queryFw, look, giveInbox, makeOutbox, makeInbox, onFound, findUar, firstReset, onClaimed, claim, onEnabled, enable, opening}
 use Rattle.card.specs.Card.{Held, Card, Hold, Host, orElse, second, MayUse, World, mailAt}
 use Rattle.card.specs.Owns.{Owns, InBooks, spotOf}
-use Rattle.card.proofs.Command.{quiet-stable, quiet-within}
+use Rattle.card.proofs.Command.{quiet-stable, within-more}
 use Rattle.card.proofs.Still.{safe-still, attributing-still, claiming-still, finding-still, looking-still}
 use Rattle.card.proofs.Reset.{safe-reset}
 use Rattle.card.proofs.View.{nothing-empty, quiet-uses}
@@ -79,11 +80,12 @@ use Rattle.card_calls.specs.SafeCourse.{SafeCourse}
 use Rattle.card_calls.specs.Ranges.{AsLaid}
 use Rattle.card_calls.proofs.Courses.{Fair, fair-zeroed, safe-run, safe-task, course-pick}
 use Rattle.card_calls.proofs.Closing.{clean-differs, safe-restored, safe-parted, safe-all-freed}
-use Rattle.card_calls.proofs.Books.{knows-owed, ranged, entryOf, each-range}
+use Rattle.card_calls.proofs.Books.{knows-owed, knows-uses, knows-bound, ranged, entryOf, each-range}
+use Rattle.card_calls.proofs.Idle.{moved-boxes, ready-idle}
 use Rattle.card_calls.proofs.Commands.{fits-in, fits-out, fits-imm, safe-failed, ready-value, safe-other, safe-good}
 use Rattle.card_calls.proofs.Areas.{Placed, safe-area, enters-fa, enters-aux, enters-range}
 use Rattle.card.specs.Known.{Clean, Empty, Nothing, Out, Quiet, ResetPost, Within, postedAs}
-use Rattle.card_calls.specs.Holding.{Calm, Entries, Knows, Opened, Ready}
+use Rattle.card_calls.specs.Holding.{Calm, Mine, Entries, Knows, Uses, Lies, Idle, Ready}
 
 -- THE LAYOUT's ranges
 pub record Laid (n : Info) : Type 0 where
@@ -142,7 +144,7 @@ fields-fair fs h q = record {
 module _ (base : ℕ → Option Hold) (P : World → Rest → Type 1) (k₀ : Host)
     (back : (n : Info) (y : Failure) (x : Closing) (b : Books) (v : World) → (x ≡ c.Kept → ⊥) → Owns base [] (v .host) → Quiet Empty (v .card) → P v (atRest g.Ended b n y x))
     (kept : (n : Info) (y : Failure) (b : Books) (v : World) → Owns base (lendsFrom b 0) (v .host) → P v (atRest g.Ended b n y c.Kept))
-    (opens : (n : Info) (b : Books) (v : World) → Opened base n b v → P v (atRest g.Open b n f.Nothing c.Clean))
+    (opens : (n : Info) (b : Books) (v : World) → Idle base n b v → P v (atRest (g.Open gv.Nothing) b n f.Nothing c.Clean))
     (early : (n : Info) (y : Failure) (b : Books) (v : World) → v .host ≡ k₀ → P v (atRest g.Ended b n y c.Clean)) where
   out-fair : (h : Here) → Fair h → Fair (zeroed outbox h)
   out-fair h q = fair-zeroed outbox h q
@@ -153,44 +155,21 @@ module _ (base : ℕ → Option Hold) (P : World → Rest → Type 1) (k₀ : Ho
   safe-adapter n b h w q x e laid s =
       safe-other base P back kept (withOutOf (b .held) 0x006 0) refl (λ a d j. opened n d j) b (zeroed outbox h) w (out-fair h q)
       (fits-out b (w .host) (x .boxes) 0x006 0 _ (omega arith) (omega arith) refl) x
-      (λ a y j v k z d. opens n (wired b y) v (record {
-        owns = d .owns;
-        boxes = d .boxes;
-        entries = d .entries;
-        fourteen = e;
-        laid = laid;
-        started = s;
-        card = quiet-within (Knows (wired b y)) Calm (v .card) (d .card);
-        quiet = λ z. d .card .0;
-      }))
+      (λ a y j v k z d. opens n (wired b y) v (ready-idle base n (wired b y) v d e laid s))
       (λ a y j v k z t d i u. opens n (wired b (after (b .wire) y)) v (record {
         owns = subst (Owns base (lendsFrom b 0)) (sym d) (x .owns);
-        boxes = record {
-          inbox = x .boxes .inbox;
-          outbox = x .boxes .outbox;
-          inHeld = x .boxes .inHeld;
-          outHeld = x .boxes .outHeld;
-          inAt = ap (λ (l : Host). l .inbox) d ∙ x .boxes .inAt;
-          outAt = ap (λ (l : Host). l .outbox) d ∙ x .boxes .outAt;
-          inLess = x .boxes .inLess;
-          outLess = x .boxes .outLess;
+        boxes = moved-boxes b (after (b .wire) y) (w .host) (v .host) d (x .boxes);
+        entries = record { room = x .entries .room; lentRoom = x .entries .lentRoom; small = x .entries .small; addressed = x .entries .addressed };
+        bound = within-more (Knows b) (Lies (wired b (after (b .wire) y))) (Calm b) (Mine (wired b (after (b .wire) y))) (v .card) (λ g m. record { within = knows-bound b g m }) (λ p m. m .1) i;
+        exact = λ p. record {
+          fourteen = e;
+          laid = laid;
+          started = s;
+          card = within-more (Knows b) (Uses (wired b (after (b .wire) y))) (Calm b) (Calm (wired b (after (b .wire) y))) (v .card) (λ g m. let o = knows-uses b g m in record { icm = o .icm; firmware = o .firmware; auxiliary = o .auxiliary; lent = o .lent }) (λ p m. m) i;
+          quiet = λ p. absurd (false≢true (sym p ∙ ap (λ (s : CmdResult). not (endSeen s)) z ∙ ap not t));
         };
-        entries = record { room = x .entries .room; small = x .entries .small; addressed = x .entries .addressed };
-        fourteen = e;
-        laid = laid;
-        started = s;
-        card = rewire b (after (b .wire) y) (v .card) i;
-        quiet = λ p. absurd (false≢true (sym p ∙ ap (λ (s : CmdResult). not (endSeen s)) z ∙ ap not t));
+        broken = λ p. absurd (false≢true (sym (x .loud) ∙ p));
       }))
-    where
-      rewire : (b : Books) (y : Wire) (k : Card) → Within (Knows b) Calm k → Within (Knows (wired b y)) Calm k
-      rewire b y k z = record {
-        now = knows b y (k .held) (z .now);
-        then = λ p e. let s = z .then p e in (s .0, knows b y _ (s .1));
-      }
-        where
-          knows : (b : Books) (y : Wire) (g : Held) → Knows b g → Knows (wired b y) g
-          knows b y g s = record { icm = s .icm; firmware = s .firmware; auxiliary = s .auxiliary; lent = s .lent }
 
   safe-func : (n : Info) (b : Books) (h : Here) (w : World) → Fair h → Ready base b w → b .lists .ranges ≡ 14 → AsLaid n b 14 → b .started ≡ true → SafeCourse w (queryFunc n b h) P
   unfolding queryFunc
@@ -221,7 +200,8 @@ module _ (base : ℕ → Option Hold) (P : World → Rest → Type 1) (k₀ : Ho
           inLess = d .boxes .inLess;
           outLess = d .boxes .outLess;
         };
-        entries = record { room = d .entries .room; small = d .entries .small; addressed = d .entries .addressed };
+        loud = d .loud;
+        entries = record { room = d .entries .room; lentRoom = d .entries .lentRoom; small = d .entries .small; addressed = d .entries .addressed };
       }) e laid refl)
 
   -- THE RANGES from i on
@@ -301,23 +281,23 @@ module _ (base : ℕ → Option Hold) (P : World → Rest → Type 1) (k₀ : Ho
       seen r.Busy y j v k z d = absurd (false≢true z)
       seen (r.Bus us) y j v k z d = absurd (false≢true z)
 
-      unseen : (a : CmdResult) (y : CmdEnd) (j : Here) (v : World) → Fair j → y .result ≡ a → endSeen a ≡ false → v .host ≡ w .host → Within (Knows b) Calm (v .card)
-          → Out (postedAs (b .wire .toggle) (withInOf (b .held) 0x034 0) (mailAt (w .host) (filledBy (h .inbox) modStatCfg))) (Knows b) Calm a (v .card)
+      unseen : (a : CmdResult) (y : CmdEnd) (j : Here) (v : World) → Fair j → y .result ≡ a → endSeen a ≡ false → v .host ≡ w .host → Within (Knows b) (Calm b) (v .card)
+          → Out (postedAs (b .wire .toggle) (withInOf (b .held) 0x034 0) (mailAt (w .host) (filledBy (h .inbox) modStatCfg))) (Knows b) (Calm b) a (v .card)
           → SafeCourse v (pick (needsReset a) (failsBy a n (wired b (after (b .wire) y)) j) (queryDevCap n (wired b (after (b .wire) y)) j)) P
       unseen (r.Done s us) y j v k p z d i t = absurd (false≢true (sym z))
       unseen (r.Status s us) y j v k p z d i t = absurd (false≢true (sym z))
       unseen (r.Timeout us) y j v k p z d i t =
           safe-failed base P back kept (r.Timeout us) (failureOf (r.Timeout us)) n b (after (b .wire) y) j v
-          (postedAs (b .wire .toggle) (withInOf (b .held) 0x034 0) (mailAt (w .host) (filledBy (h .inbox) modStatCfg))) (Knows b) Calm refl k
-          (subst (Owns base (lendsFrom b 0)) (sym d) (x .owns)) (x .entries) (λ g. knows-owed b g (x .entries)) t
+          (postedAs (b .wire .toggle) (withInOf (b .held) 0x034 0) (mailAt (w .host) (filledBy (h .inbox) modStatCfg))) (Knows b) (Calm b) refl k
+          (subst (Owns base (lendsFrom b 0)) (sym d) (x .owns)) (x .entries) (x .loud) (λ g. knows-owed b g (x .entries)) t
       unseen r.Busy y j v k p z d i t =
           safe-failed base P back kept r.Busy (failureOf r.Busy) n b (after (b .wire) y) j v
-          (postedAs (b .wire .toggle) (withInOf (b .held) 0x034 0) (mailAt (w .host) (filledBy (h .inbox) modStatCfg))) (Knows b) Calm refl k
-          (subst (Owns base (lendsFrom b 0)) (sym d) (x .owns)) (x .entries) (λ g. knows-owed b g (x .entries)) t
+          (postedAs (b .wire .toggle) (withInOf (b .held) 0x034 0) (mailAt (w .host) (filledBy (h .inbox) modStatCfg))) (Knows b) (Calm b) refl k
+          (subst (Owns base (lendsFrom b 0)) (sym d) (x .owns)) (x .entries) (x .loud) (λ g. knows-owed b g (x .entries)) t
       unseen (r.Bus us) y j v k p z d i t =
           safe-failed base P back kept (r.Bus us) (failureOf (r.Bus us)) n b (after (b .wire) y) j v
-          (postedAs (b .wire .toggle) (withInOf (b .held) 0x034 0) (mailAt (w .host) (filledBy (h .inbox) modStatCfg))) (Knows b) Calm refl k
-          (subst (Owns base (lendsFrom b 0)) (sym d) (x .owns)) (x .entries) (λ g. knows-owed b g (x .entries)) t
+          (postedAs (b .wire .toggle) (withInOf (b .held) 0x034 0) (mailAt (w .host) (filledBy (h .inbox) modStatCfg))) (Knows b) (Calm b) refl k
+          (subst (Owns base (lendsFrom b 0)) (sym d) (x .owns)) (x .entries) (x .loud) (λ g. knows-owed b g (x .entries)) t
 
   safe-run-fw : (n : Info) (b : Books) (h : Here) (w : World) → Fair h → Ready base b w → Bare b → SafeCourse w (runFw n b h) P
   unfolding runFw
@@ -326,8 +306,8 @@ module _ (base : ℕ → Option Hold) (P : World → Rest → Type 1) (k₀ : Ho
       (λ a y j v k d. safe-stat n (wired b y) j v k d e)
 
   -- another command register
-  ready-wired : (b : Books) (y : Wire) (w : World) → Ready base b w → Ready base (wired b y) w
-  ready-wired b y w d = record {
+  ready-wired : (b : Books) (y : Wire) (w : World) → y .silent ≡ false → Ready base b w → Ready base (wired b y) w
+  ready-wired b y w l d = record {
     owns = d .owns;
     card = (d .card .0, record { icm = d .card .1 .icm; firmware = d .card .1 .firmware; auxiliary = d .card .1 .auxiliary; lent = d .card .1 .lent });
     boxes = record {
@@ -340,14 +320,15 @@ module _ (base : ℕ → Option Hold) (P : World → Rest → Type 1) (k₀ : Ho
       inLess = d .boxes .inLess;
       outLess = d .boxes .outLess;
     };
-    entries = record { room = d .entries .room; small = d .entries .small; addressed = d .entries .addressed };
+    loud = l;
+    entries = record { room = d .entries .room; lentRoom = d .entries .lentRoom; small = d .entries .small; addressed = d .entries .addressed };
   }
 
   -- where the catastrophic buffer is known
   safe-reply : (n : Info) (b : Books) (h : Here) (w : World) → Fair h → Ready base b w → b .held .fa ≡ o.Absent → Bare b → SafeCourse w (fwReply n b h) P
   safe-reply n b h w q x z e =
       let d : Books = withCatas b (fwHeld (h .outbox) (n .uar .index)) in
-      let k : Ready base (withCatas b (fwHeld (h .outbox) (n .uar .index))) w = ready-wired b (withCatas b (fwHeld (h .outbox) (n .uar .index)) .wire) w x in
+      let k : Ready base (withCatas b (fwHeld (h .outbox) (n .uar .index))) w = ready-wired b (withCatas b (fwHeld (h .outbox) (n .uar .index)) .wire) w (x .loud) x in
       ready-value base P back kept (queryFwOf (h .outbox) (n .uar .index))
       (λ y. areaFor a.Fa (y .pages * 4096) (runFw (withRevision n (y .rev))) (withRevision n (y .rev)) (withCatas b (fwHeld (h .outbox) (n .uar .index))) h) n
       (withCatas b (fwHeld (h .outbox) (n .uar .index))) h w q k
@@ -368,7 +349,7 @@ module _ (base : ℕ → Option Hold) (P : World → Rest → Type 1) (k₀ : Ho
   safe-look n b h w q x z e =
       safe-task (λ t j. queryFw n (withToggle b t) j) (λ v t. (v .host ≡ w .host) × Quiet (Knows b) (v .card)) P looking h w q
       (safe-still (h .inbox) looking (Quiet (Knows b)) (w .host) w looking-still (quiet-stable (Knows b)) refl (x .card))
-      (λ v t j k d s. safe-query-fw n (withToggle b t) j v k (ready-wired b (withToggle b t .wire) v (record {
+      (λ v t j k d s. safe-query-fw n (withToggle b t) j v k (ready-wired b (withToggle b t .wire) v (x .loud) (record {
         owns = subst (Owns base (lendsFrom b 0)) (sym (s .0)) (x .owns);
         card = s .1;
         boxes = record {
@@ -382,6 +363,7 @@ module _ (base : ℕ → Option Hold) (P : World → Rest → Type 1) (k₀ : Ho
           outLess = x .boxes .outLess;
         };
         entries = x .entries;
+        loud = x .loud;
       })) z e)
 
   -- BEFORE BRING-UP: the card was reset, and has taken no command since
@@ -410,7 +392,7 @@ module _ (base : ℕ → Option Hold) (P : World → Rest → Type 1) (k₀ : Ho
   })
 
   no-entries : (s : ℕ) (x y : Buffer) → Entries (withOutbox (withInbox (start s) x) y)
-  no-entries s x y = record { room = refl; small = λ k h. absurd (let q : ⊥ = omega (arith, h) in q); addressed = λ k h. absurd (let q : ⊥ = omega (arith, h) in q) }
+  no-entries s x y = record { room = refl; lentRoom = refl; small = λ k h. absurd (let q : ⊥ = omega (arith, h) in q); addressed = λ k h. absurd (let q : ⊥ = omega (arith, h) in q) }
 
   safe-outbox : (s : ℕ) (x : Buffer) (n : Info) (h : Here) (w : World) → Fair h → Owns base (x ∷ []) (w .host) → Quiet Nothing (w .card) → w .host .inbox ≡ some (spotOf x) → w .host .outbox ≡ none → x .dev < 2 ^ 64
       → SafeCourse w (makeOutbox n (withInbox (start s) x) h) P
@@ -440,6 +422,7 @@ module _ (base : ℕ → Option Hold) (P : World → Rest → Type 1) (k₀ : Ho
               outLess = below y (z .2) (z .3);
             };
             entries = no-entries s x y;
+            loud = refl;
           }) refl (refl, refl)
 
   safe-inbox : (s : ℕ) (n : Info) (h : Here) (w : World) → Fair h → Owns base [] (w .host) → Quiet Nothing (w .card) → w .host .inbox ≡ none → w .host .outbox ≡ none → SafeCourse w (makeInbox n (start s) h) P

@@ -1,14 +1,15 @@
--- What the books say of the card while an opening runs, and when it has ended well.
-use Prim.Native.Nat.{ℕ, _^_, _<_}
+-- What the books say of the card while an opening runs, and of an open session between two calls.
+use Prim.Native.Nat.{ℕ, _-_, _^_, _<_}
+use mathlib.Core.List.{List}
 use mathlib.Core.Bool.{true, false}
 use mathlib.Core.Logic.{_⊎_, _↔_}
 use mathlib.Core.Option.{Option, some, none}
 use mathlib.Core.Path.{_≡_}
 use lib.ListN.{length}
-use Rattle.dma.specs.Pages.{blocksIn}
+use Rattle.dma.specs.Pages.{table, blocksIn}
 use Rattle.dma.specs.declared.Buffer.{Buffer}
 use Rattle.dma.specs.declared.Cutter.{Cutter}
-use Rattle.session.specs.Session.{icmAt}
+use Rattle.session.specs.Session.{icmAt, bufferAt}
 use Rattle.session.specs.declared.Hold.{Hold as Slot}
 use Rattle.session.specs.declared.Hold.the-variants as o
 use Rattle.session.specs.declared.Books.{Books}
@@ -16,9 +17,9 @@ use Rattle.session.specs.declared.Info.{Info}
 use Rattle.session.specs.declared.Area.{Area}
 use Rattle.session.specs.declared.Area.the-variants as a
 use Rattle.closing.specs.Closing.{lendsFrom}
-use Rattle.card.specs.Card.{Held, Command, Other, kind, Meets, Hold, Host, World}
+use Rattle.card.specs.Card.{Held, Command, Other, kind, Meets, Hold, Host, World, Holds, Carries}
 use Rattle.card.specs.Known.{Quiet, Within}
-use Rattle.card.specs.Owns.{Owns, spotOf}
+use Rattle.card.specs.Owns.{Owns, InBooks, spotOf}
 use Rattle.card_calls.specs.Ranges.{InRanges, AsLaid, AnyIn}
 
 -- WHAT THE CARD HOLDS: exactly the ranges; no more than the areas; nothing lent
@@ -32,9 +33,10 @@ pub record Knows (b : Books) (g : Held) : Type 1 where
   pub auxiliary : (d : ℕ) → g .auxiliary d → OnSlot (b .held .aux) d
   pub lent : (d : ℕ) → g .lent d → ⊥
 
--- the list of ranges has its place for fourteen; each has fewer than 2^32 pages at an address of 64 bits
+-- the lists have their places, for fourteen ranges and 64 lent buffers; each range has fewer than 2^32 pages at an address of 64 bits
 pub record Entries (b : Books) : Type 0 where
   pub room : length (b .lists .icm) ≡ 14
+  pub lentRoom : length (b .lists .lent) ≡ 64
   pub small : (k : ℕ) → k < b .lists .ranges → icmAt (b .lists .icm) k .pages < 2 ^ 32
   pub addressed : (k : ℕ) → k < b .lists .ranges → icmAt (b .lists .icm) k .virt < 2 ^ 64
 
@@ -72,9 +74,12 @@ pub record Boxes (b : Books) (k : Host) : Type 0 where
   pub inLess : inbox .dev < 2 ^ 64
   pub outLess : outbox .dev < 2 ^ 64
 
--- a command of no effect
-abbrev pub Calm : Command → Type 0
-Calm p = kind (p .opcode) ≡ Other
+-- a command that carries pages of the books alone; and one of no effect beside
+abbrev pub Mine : Books → Command → Type 0
+Mine b p = (d : ℕ) → Carries p d → InBooks (lendsFrom b 0) d
+
+abbrev pub Calm : Books → Command → Type 0
+Calm b p = (kind (p .opcode) ≡ Other) × Mine b p
 
 -- between two commands of an opening
 pub record Ready (base : ℕ → Option Hold) (b : Books) (w : World) : Type 1 where
@@ -82,14 +87,35 @@ pub record Ready (base : ℕ → Option Hold) (b : Books) (w : World) : Type 1 w
   pub card : Quiet (Knows b) (w .card)
   pub boxes : Boxes b (w .host)
   pub entries : Entries b
+  pub loud : b .wire .silent ≡ false
 
--- OPEN: the books have the fourteen ranges of the layout, and the card's map is exactly these; a command that may be pending is of no effect
-pub record Opened (base : ℕ → Option Hold) (n : Info) (b : Books) (w : World) : Type 1 where
-  pub owns : Owns base (lendsFrom b 0) (w .host)
-  pub boxes : Boxes b (w .host)
-  pub entries : Entries b
+-- OPEN: what the card holds is exactly the ranges, no more than the areas, and of lent pages no more than what is lent
+abbrev pub lents : Books → List Buffer
+lents b = table (λ k. bufferAt (b .lists .lent) k) 0 (b .lists .lends - 0)
+
+pub record Uses (b : Books) (g : Held) : Type 1 where
+  pub icm : (x d : ℕ) → g .icm x d ↔ InRanges b x d
+  pub firmware : (d : ℕ) → g .firmware d → OnSlot (b .held .fa) d
+  pub auxiliary : (d : ℕ) → g .auxiliary d → OnSlot (b .held .aux) d
+  pub lent : (d : ℕ) → g .lent d → InBooks (lents b) d
+
+-- the books have the fourteen ranges of the layout, and the card's map is exactly these; a command that may be pending is of no effect
+pub record Opened (n : Info) (b : Books) (w : World) : Type 1 where
   pub fourteen : b .lists .ranges ≡ 14
   pub laid : AsLaid n b 14
   pub started : b .started ≡ true
-  pub card : Within (Knows b) Calm (w .card)
+  pub card : Within (Uses b) (Calm b) (w .card)
   pub quiet : b .wire .running ≡ false → w .card .pending ≡ none
+
+-- what is held lies in the buffers of the books
+pub record Lies (b : Books) (g : Held) : Type 1 where
+  pub within : (d : ℕ) → Holds g d → InBooks (lendsFrom b 0) d
+
+-- BETWEEN TWO CALLS on an open session: it is open as above until a quiesce has begun, and broken from its end on
+pub record Idle (base : ℕ → Option Hold) (n : Info) (b : Books) (w : World) : Type 1 where
+  pub owns : Owns base (lendsFrom b 0) (w .host)
+  pub boxes : Boxes b (w .host)
+  pub entries : Entries b
+  pub bound : Within (Lies b) (Mine b) (w .card)
+  pub exact : b .wire .silent ≡ false → Opened n b w
+  pub broken : b .wire .silent ≡ true → b .wire .broken ≡ true

@@ -4,6 +4,7 @@ use lib.ListN.{getD}
 use Rattle.pci.specs.Script.{Reply}
 use Rattle.session.specs.Course.{Course, ret, ask, Lent}
 use Rattle.session.specs.declared.Top.{Top}
+use Rattle.client.specs.declared.Request.{Request}
 use Rattle.card.specs.Card.{World, WorldStep, Allowed}
 
 -- the numbers of an undo record are those of its type
@@ -11,6 +12,12 @@ pub record Typed (u : Top) : Type 0 where
   pub opMod : u .«op_mod» < 2 ^ 8
   pub inMod : u .«in_mod» < 2 ^ 32
   pub inParam : u .«in_param» < 2 ^ 64
+
+-- and those of a client's command
+pub record Sized (y : Request) : Type 0 where
+  pub opMod : y .«op_mod» < 2 ^ 8
+  pub inMod : y .«in_mod» < 2 ^ 32
+  pub inParam : y .«in_param» < 2 ^ 64
 
 -- what is lent is bytes and such a record, and free otherwise
 pub record Lendable (m : Lent) : Type 0 where

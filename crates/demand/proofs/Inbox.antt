@@ -1,4 +1,4 @@
--- The inbox keeps its 4,096 bytes.
+-- The inbox keeps its 4,096 bytes, in each step and at the beginning of each call.
 use Prim.Native.Nat.{ℕ}
 use mathlib.Core.Bool.{Bool}
 use mathlib.Core.List.{List}
@@ -22,6 +22,9 @@ use Rattle.session.specs.declared.Fill.the-variants as w
 use Rattle.session.specs.declared.Session.{Session}
 use Rattle.opening.specs.Values.{layoutIn}
 use Rattle.fw.specs.Calls.{planOf, withWork, filledIn, wipedIn, wipeOf, stepBoxIn, stepIn}
+use Rattle.calls.specs.Calls.{readyIn, planFor, begunInbox}
+use Rattle.calls.specs.declared.Call.{Call}
+use Rattle.calls.proofs.Begins.{length-ready}
 use Rattle.fw.specs.declared.Wipe.{Wipe}
 use Rattle.fw.specs.declared.Wipe.the-variants as v
 use Rattle.card_calls.proofs.Areas.{filled-is}
@@ -50,3 +53,7 @@ box-length s a y i o top (e.Ended z) l = filled-length (planOf (withWork s y) z 
 pub step-length : (s : Session) (a : Answer) (r i o : List ℕ) (top : Top) → length i ≡ 4096 → length (stepIn s a r i o top) ≡ 4096
 unfolding stepIn
 step-length s a r i o top l = box-length s a (workStepOf (s .work) a r .work) i o top (workStepOf (s .work) a r .ending) l
+
+pub call-length : (s : Session) (c : Call) (y i : List ℕ) (top : Top) → length i ≡ 4096 → length (begunInbox s c y i top) ≡ 4096
+unfolding begunInbox
+call-length s c y i top l = filled-length (planFor s c top .fill) (planFor s c top .session) (readyIn c y i) (length-ready c y i ∙ l)

@@ -3,7 +3,7 @@ use Prim.Native.Nat.{ℕ, zero, suc}
 use mathlib.Core.Bool.{Bool, true, false}
 use mathlib.Core.List.{List}
 use mathlib.Core.Path.{_≡_}
-use lib.Dec.{eqb, ltb}
+use lib.Dec.{eqb, leb, ltb}
 use lib.ListN.{length}
 use Rattle.fields.specs.Outcome.{Outcome, value, refused, pick}
 use Rattle.dma.specs.Buffers.{pagesFor}
@@ -65,7 +65,7 @@ use Rattle.work.specs.declared.End.{End}
 use Rattle.work.specs.declared.Ending.{Ending}
 use Rattle.work.specs.declared.Ending.the-variants as e
 use Rattle.session.specs.Failures.{madeIn, needsReset}
-use Rattle.session.specs.Session.{session, tookOf}
+use Rattle.session.specs.Session.{session, tookOf, silencedOf}
 use Rattle.session.specs.declared.Hold.{Hold}
 use Rattle.session.specs.declared.Hold.the-variants as o
 use Rattle.session.specs.declared.Top.{Top}
@@ -79,6 +79,8 @@ use Rattle.session.specs.declared.Prepare.{Prepare}
 use Rattle.session.specs.declared.Prepare.the-variants as p
 use Rattle.session.specs.declared.Boot.{Boot}
 use Rattle.session.specs.declared.Boot.the-variants as b
+use Rattle.session.specs.declared.Client.{Client}
+use Rattle.session.specs.declared.Client.the-variants as kc
 use Rattle.session.specs.declared.Close.{Close}
 use Rattle.session.specs.declared.Close.the-variants as k
 use Rattle.session.specs.declared.Failure.{Failure}
@@ -89,11 +91,17 @@ use Rattle.session.specs.declared.Fill.the-variants as w
 use Rattle.session.specs.declared.Session.{Session}
 use Rattle.session.specs.declared.Planned.{Planned}
 use Rattle.closing.specs.Closing.{isDone, isHeld, UNDOS}
-use Rattle.closing.specs.Plan.{cmdIn, resetIn, onHold, givenPlan, outboxPlan, inboxPlan, faPlan, auxPlan, icmPlan, lentPlan, stoppedPlan, unmapFaPlan, unmapAuxPlan, unmapPlan, closeHcaPlan, undoSend, undoPlan, stopPlan, closesOf, wasReset, closePlanAt, closePlan}
+use Rattle.closing.specs.Plan.{cmdIn, resetIn, onHold, givenPlan, outboxPlan, inboxPlan, faPlan, auxPlan, icmPlan, lentPlan, failedPlan, stoppedPlan, unmapFaPlan, unmapAuxPlan, unmapPlan, closeHcaPlan, undoSend, undoPlan, stopPlan, quiescePlan, closesOf, wasReset, closePlanAt, closePlan}
+use Rattle.client.specs.Plan as cl
+use Rattle.client.specs.Plan.{commandPlan, lendPlan, lendEnded, clientPlanAt, clientPlan}
+use Rattle.client.specs.declared.Request.{Request}
 use Rattle.opening.specs.Opening.{portsOf}
 use Rattle.opening.specs.Plan as n
 use Rattle.opening.specs.Plan.{attrIn, claimIn, barIn, failPlan, failByPlan, funcPlan, makePlan, nextRange, mappedPlan, mapPlan, areaPlan, layoutPlan, portPlan, fwReplied, capReplied, portReplied, funcReplied, bootPlanAt, bootPlan, preparePlanAt, preparePlan, listsAt, listsBoot, lists}
 use Rattle.fw.specs.Calls.{planOf, withWork, filled, begunOf, stepTurn, stepOf}
+use Rattle.calls.specs.Calls.{withoutFailure, readyIn, planFor, begunTurn}
+use Rattle.calls.specs.declared.Call.{Call}
+use Rattle.calls.specs.declared.Call.the-variants as kn
 use Rattle.card_calls.proofs.Closing.{clean-differs, reset-differs}
 
 -- a task that asks nothing of the host
@@ -127,6 +135,7 @@ FitClose k.CloseHca z x = NoHost x
 FitClose (k.Unmap i) z x = NoHost x
 FitClose k.UnmapAux z x = NoHost x
 FitClose k.UnmapFa z x = NoHost x
+FitClose k.Quiesce z x = NoHost x
 FitClose k.Reset z x = NoHost x
 FitClose (k.FreeLent i) z x = z ≡ c.Kept → ⊥
 FitClose (k.FreeIcm i) z x = z ≡ c.Kept → ⊥
@@ -137,17 +146,6 @@ FitClose k.FreeOutbox z x = z ≡ c.Kept → ⊥
 FitClose k.Release z x = NoHost x
 FitClose k.Restore z x = NoHost x
 
-abbrev pub Fit : Stage → Closing → Task → Type 0
-Fit g.Fresh z x = IsRest x
-Fit g.Open z x = IsRest x
-Fit g.Ended z x = IsRest x
-Fit (g.Prepare y) z x = Unit {0}
-Fit (g.Boot y) z x = Unit {0}
-Fit (g.Close y) z x = FitClose y z x
-
-abbrev pub Suited : Session → Type 0
-Suited s = Fit (s .stage) (s .closing) (s .work .task)
-
 -- what is so of the host when the closing began, `E`: it stands until a closing frees, and to the end of one that keeps
 abbrev pub HeldClose : Close → Closing → Type 0 → Type 0
 HeldClose (k.Undo i) z E = E
@@ -155,6 +153,7 @@ HeldClose k.CloseHca z E = E
 HeldClose (k.Unmap i) z E = E
 HeldClose k.UnmapAux z E = E
 HeldClose k.UnmapFa z E = E
+HeldClose k.Quiesce z E = E
 HeldClose k.Reset z E = E
 HeldClose (k.FreeLent i) z E = Unit {0}
 HeldClose (k.FreeIcm i) z E = Unit {0}
@@ -167,10 +166,11 @@ HeldClose k.Restore z E = z ≡ c.Kept → E
 
 abbrev pub HeldAt : Stage → Closing → Type 0 → Type 0
 HeldAt g.Fresh z E = Unit {0}
-HeldAt g.Open z E = Unit {0}
+HeldAt (g.Open y) z E = Unit {0}
 HeldAt g.Ended z E = z ≡ c.Kept → E
 HeldAt (g.Prepare y) z E = Unit {0}
 HeldAt (g.Boot y) z E = Unit {0}
+HeldAt (g.Client y) z E = Unit {0}
 HeldAt (g.Close y) z E = HeldClose y z E
 
 -- it stands wherever it is so
@@ -180,6 +180,7 @@ held-close k.CloseHca z E x = x
 held-close (k.Unmap i) z E x = x
 held-close k.UnmapAux z E x = x
 held-close k.UnmapFa z E x = x
+held-close k.Quiesce z E x = x
 held-close k.Reset z E x = x
 held-close (k.FreeLent i) z E x = tt
 held-close (k.FreeIcm i) z E x = tt
@@ -192,281 +193,19 @@ held-close k.Restore z E x = λ e. x
 
 pub held-all : (st : Stage) (z : Closing) (E : Type 0) → E → HeldAt st z E
 held-all g.Fresh z E x = tt
-held-all g.Open z E x = tt
+held-all (g.Open y) z E x = tt
 held-all g.Ended z E x = λ e. x
 held-all (g.Prepare y) z E x = tt
 held-all (g.Boot y) z E x = tt
+held-all (g.Client y) z E x = tt
 held-all (g.Close y) z E x = held-close y z E x
+
+by-outcome : (P : Planned → Type 0) (v : Outcome ℕ) (y : ℕ → Planned) (z : Planned) → ((i : ℕ) → P (y i)) → P z → P (byOutcome v y z)
+by-outcome P (value i) y z h d = h i
+by-outcome P (refused i vs) y z h d = d
 
 held-in : (y : Planned) (E : Type 0) → E → HeldAt (y .session .stage) (y .session .closing) E
 held-in y E x = held-all (y .session .stage) (y .session .closing) E x
-
-abbrev Lawful : Planned → Type 0
-Lawful y = Suited (y .session)
-
-lawful-pick : (x : Bool) (y z : Planned) → Lawful y → Lawful z → Lawful (pick x y z)
-lawful-pick true y z h k = h
-lawful-pick false y z h k = k
-
--- FREEING: the stage frees or parts, and what the closing says stays
-abbrev Frees : Type 0 → Planned → Type 0
-Frees E y = Suited (y .session) × HeldAt (y .session .stage) (y .session .closing) E
-
-frees-pick : (E : Type 0) (x : Bool) (y z : Planned) → Frees E y → Frees E z → Frees E (pick x y z)
-frees-pick E true y z h k = h
-frees-pick E false y z h k = k
-
-frees-hold : (E : Type 0) (x : Hold) (y : Buffer → Planned) (z : Planned) → ((d : Buffer) → Frees E (y d)) → Frees E z → Frees E (onHold x y z)
-frees-hold E o.Absent y z h k = k
-frees-hold E (o.Held d) y z h k = h d
-
-module _ (E : Type 0) (s : Session) (no : s .closing ≡ c.Kept → ⊥) (n : ℕ) where
-  given : Frees E (givenPlan s n)
-  given = (tt, λ e. absurd (no e))
-
-  out-freed : Frees E (outboxPlan s n)
-  unfolding outboxPlan
-  out-freed = frees-hold E (s .books .held .outbox) _ _ (λ d. (no, tt)) given
-
-  in-freed : Frees E (inboxPlan s n)
-  unfolding inboxPlan
-  in-freed = frees-hold E (s .books .held .inbox) _ _ (λ d. (no, tt)) out-freed
-
-  fa-freed : Frees E (faPlan s n)
-  unfolding faPlan
-  fa-freed = frees-hold E (s .books .held .fa) _ _ (λ d. (no, tt)) in-freed
-
-  aux-freed : Frees E (auxPlan s n)
-  unfolding auxPlan
-  aux-freed = frees-hold E (s .books .held .aux) _ _ (λ d. (no, tt)) fa-freed
-
-  icm-freed : (i : ℕ) → Frees E (icmPlan s i n)
-  unfolding icmPlan
-  icm-freed i = frees-pick E (ltb i (s .books .lists .ranges)) _ _ (no, tt) aux-freed
-
-  lent-freed : (i : ℕ) → Frees E (lentPlan s i n)
-  unfolding lentPlan
-  lent-freed i = frees-pick E (ltb i (s .books .lists .lends)) _ _ (no, tt) (icm-freed 0)
-
--- CLOSING
-stopped-suited : (s : Session) (n : ℕ) → Lawful (stoppedPlan s n)
-unfolding stoppedPlan
-stopped-suited s n = lawful-pick (s .books .wire .running) _ _ tt (lent-freed (Unit {0}) (closesOf s c.Clean (s .books)) clean-differs n 0 .0)
-
-fa-suited : (s : Session) (n : ℕ) → Lawful (unmapFaPlan s n)
-unfolding unmapFaPlan
-fa-suited s n = lawful-pick (isHeld (s .books .held .fa)) _ _ tt (stopped-suited s n)
-
-aux-suited : (s : Session) (n : ℕ) → Lawful (unmapAuxPlan s n)
-unfolding unmapAuxPlan
-aux-suited s n = lawful-pick (isHeld (s .books .held .aux)) _ _ tt (fa-suited s n)
-
-unmap-suited : (s : Session) (i n : ℕ) → Lawful (unmapPlan s i n)
-unfolding unmapPlan
-unmap-suited s zero n = aux-suited s n
-unmap-suited s (suc i) n = tt
-
-hca-suited : (s : Session) (n : ℕ) → Lawful (closeHcaPlan s n)
-unfolding closeHcaPlan
-hca-suited s n = lawful-pick (s .books .started) _ _ tt (unmap-suited s (s .books .lists .ranges) n)
-
-undo-sent : (s : Session) (i : ℕ) (y : Top) → Lawful (undoSend s i y)
-undo-sent s zero y = tt
-undo-sent s (suc i) y = lawful-pick (isReserved (y .op)) _ _ tt tt
-
-undo-suited : (s : Session) (i : ℕ) (y : Top) → Lawful (undoPlan s i y)
-unfolding undoPlan
-undo-suited s i y = lawful-pick (eqb (y .count) 0) _ _ (hca-suited s (y .count)) (undo-sent s i y)
-
-pub stop-suited : (s : Session) (y : Top) → Lawful (stopPlan s y)
-unfolding stopPlan
-stop-suited s y = lawful-pick (s .books .wire .broken) _ _ tt (undo-suited s UNDOS y)
-
-reset-suited : (s : Session) (x : ResetEnd) (n : ℕ) → Lawful (wasReset s x n)
-reset-suited s x n = lawful-pick (isGood x) _ _ (lent-freed (Unit {0}) (closesOf s c.Reset (s .books)) reset-differs n 0 .0) tt
-
--- a task of a closing has ended
-close-lawful : (E : Type 0) (s : Session) (y : End) (top : Top) (st : Close) (x : Task) → FitClose st (s .closing) x → HeldClose st (s .closing) E → Frees E (closePlanAt s y top st)
-close-lawful E s y top (k.Undo i) x h d = (lawful-pick (isDone (cmdIn y .result)) _ _ (undo-suited (tookOf s (cmdIn y)) i top) tt, held-in (closePlanAt s y top (k.Undo i)) E d)
-close-lawful E s y top k.CloseHca x h d = (lawful-pick (isDone (cmdIn y .result)) _ _ (unmap-suited (tookOf s (cmdIn y)) (s .books .lists .ranges) (top .count)) tt, held-in (closePlanAt s y top k.CloseHca) E d)
-close-lawful E s y top (k.Unmap i) x h d = (lawful-pick (isDone (cmdIn y .result)) _ _ (unmap-suited (tookOf s (cmdIn y)) i (top .count)) tt, held-in (closePlanAt s y top (k.Unmap i)) E d)
-close-lawful E s y top k.UnmapAux x h d = (lawful-pick (isDone (cmdIn y .result)) _ _ (fa-suited (tookOf s (cmdIn y)) (top .count)) tt, held-in (closePlanAt s y top k.UnmapAux) E d)
-close-lawful E s y top k.UnmapFa x h d = (lawful-pick (isDone (cmdIn y .result)) _ _ (stopped-suited (tookOf s (cmdIn y)) (top .count)) tt, held-in (closePlanAt s y top k.UnmapFa) E d)
-close-lawful E s y top k.Reset x h d = (reset-suited s (resetIn y) (top .count), held-in (closePlanAt s y top k.Reset) E d)
-close-lawful E s y top (k.FreeLent i) x h d = lent-freed E s h (top .count) i
-close-lawful E s y top (k.FreeIcm i) x h d = icm-freed E s h (top .count) i
-close-lawful E s y top k.FreeAux x h d = fa-freed E s h (top .count)
-close-lawful E s y top k.FreeFa x h d = in-freed E s h (top .count)
-close-lawful E s y top k.FreeInbox x h d = out-freed E s h (top .count)
-close-lawful E s y top k.FreeOutbox x h d = given E s h (top .count)
-close-lawful E s y top k.Release x h d = (tt, d)
-close-lawful E s y top k.Restore x h d = (tt, d)
-
--- OPENING
-fail-suited : (s : Session) (y : Refusal) (top : Top) → Lawful (failPlan s y top)
-unfolding failPlan
-fail-suited s y top = stop-suited (n.withFailure s y) top
-
-fail-by-suited : (s : Session) (y : CmdResult) (top : Top) → Lawful (failByPlan s y top)
-unfolding failByPlan
-fail-by-suited s y top = fail-suited _ _ top
-
-outcome-suited : (v : Outcome ℕ) (y : ℕ → Planned) (z : Planned) → ((i : ℕ) → Lawful (y i)) → Lawful z → Lawful (byOutcome v y z)
-outcome-suited (value i) y z h d = h i
-outcome-suited (refused i vs) y z h d = d
-
-make-suited : (s : Session) (x : Area) (bytes : ℕ) (top : Top) → Lawful (makePlan s x bytes top)
-unfolding makePlan
-make-suited s x bytes top = outcome-suited (pagesFor bytes) _ _ (λ i. tt) (fail-suited s _ top)
-
-func-suited : (s : Session) (top : Top) → Lawful (funcPlan s top)
-unfolding funcPlan
-func-suited s top = lawful-pick (eqb (s .info .cap .«num_sys_eqs») 0) _ _ tt tt
-
-range-suited : (s : Session) (i : ℕ) (top : Top) → Lawful (nextRange s i top)
-unfolding nextRange
-range-suited s i top = lawful-pick (ltb i 13) _ _ (make-suited s _ _ top) tt
-
-mapped-suited : (s : Session) (x : Area) (top : Top) → Lawful (mappedPlan s x top)
-unfolding mappedPlan
-mapped-suited s a.Fa top = tt
-mapped-suited s a.Aux top = make-suited s _ _ top
-mapped-suited s (a.Range i) top = range-suited s i top
-
-map-suited : (s : Session) (x : Area) (y : Cutter) (top : Top) → Lawful (mapPlan s x y top)
-unfolding mapPlan
-map-suited s x y top = lawful-pick (eqb (y .left) 0) _ _ (mapped-suited s x top) tt
-
-area-suited : (s : Session) (x : Area) (y : Made) (top : Top) → Lawful (areaPlan s x y top)
-area-suited s x (m.Ready y) top = map-suited _ x _ top
-area-suited s x (m.Refused y) top = fail-suited s _ top
-
-layout-suited : (s : Session) (y : Outcome Layout) (top : Top) → Lawful (layoutPlan s y top)
-unfolding layoutPlan
-layout-suited s (value y) top = tt
-layout-suited s (refused i vs) top = fail-suited s _ top
-
-port-suited : (s : Session) (i : ℕ) (top : Top) → Lawful (portPlan s i top)
-unfolding portPlan
-port-suited s i top = lawful-pick (ltb i (portsOf (s .info))) _ _ tt (layout-suited s (profileOf (s .info .cap)) top)
-
-fw-suited : (s : Session) (y : Outcome FwInfo) (z : FwInfo) (top : Top) → Lawful (fwReplied s y z top)
-unfolding fwReplied
-fw-suited s (value y) z top = make-suited _ a.Fa _ top
-fw-suited s (refused i vs) z top = fail-suited _ _ top
-
-cap-suited : (s : Session) (y : Outcome DevCap) (top : Top) → Lawful (capReplied s y top)
-unfolding capReplied
-cap-suited s (value y) top = port-suited _ 0 top
-cap-suited s (refused i vs) top = fail-suited s _ top
-
-replied-suited : (s : Session) (i : ℕ) (y : Outcome PortInfo) (top : Top) → Lawful (portReplied s i y top)
-unfolding portReplied
-replied-suited s i (value y) top = port-suited _ i top
-replied-suited s i (refused j vs) top = fail-suited s _ top
-
-func-replied : (s : Session) (y : Outcome FuncInfo) (top : Top) → Lawful (funcReplied s y top)
-unfolding funcReplied
-func-replied s (value y) top = tt
-func-replied s (refused i vs) top = fail-suited s _ top
-
-boot-suited : (s : Session) (y : End) (out : List ℕ) (top : Top) (st : Boot) → Lawful (bootPlanAt s y out top st)
-boot-suited s y out top b.QueryFw = lawful-pick (isDone (cmdIn y .result)) _ _ (fw-suited _ (queryFwOf out (s .info .uar .index)) _ top) (fail-suited _ _ top)
-boot-suited s y out top (b.Make x) = area-suited s x (madeIn y) top
-boot-suited s y out top (b.Map x z) = lawful-pick (isDone (cmdIn y .result)) _ _ (map-suited _ x z top) (fail-by-suited _ _ top)
-boot-suited s y out top b.RunFw = lawful-pick (isDone (cmdIn y .result)) _ _ tt (fail-by-suited _ _ top)
-boot-suited s y out top b.ModStat = lawful-pick (needsReset (cmdIn y .result)) _ _ (fail-by-suited _ _ top) tt
-boot-suited s y out top b.DevCap = lawful-pick (isDone (cmdIn y .result)) _ _ (cap-suited _ (capabilityOf out (s .info .uar .size)) top) (fail-by-suited _ _ top)
-boot-suited s y out top (b.Port i) = lawful-pick (isDone (cmdIn y .result)) _ _ (replied-suited _ i (queryPortOf out i) top) (fail-by-suited _ _ top)
-boot-suited s y out top b.IcmSize = lawful-pick (isDone (cmdIn y .result)) _ _ (make-suited _ a.Aux _ top) (fail-by-suited _ _ top)
-boot-suited s y out top b.InitHca = lawful-pick (isDone (cmdIn y .result)) _ _ (func-suited _ top) (fail-by-suited _ _ top)
-boot-suited s y out top b.Func = lawful-pick (isDone (cmdIn y .result)) _ _ (func-replied _ (queryFuncOf out) top) (fail-by-suited _ _ top)
-boot-suited s y out top b.Adapter = tt
-
-attr-suited : (s : Session) (y : Attributes) (top : Top) → Lawful (n.attrPlan s y top)
-attr-suited s (at.Enabled v) top = tt
-attr-suited s at.Refused top = tt
-
-claim-suited : (s : Session) (y : Claimed) (top : Top) → Lawful (n.claimPlan s y top)
-claim-suited s l.Good top = tt
-claim-suited s l.Refused top = tt
-
-bar-suited : (s : Session) (y : Found) (top : Top) → Lawful (n.barPlan s y top)
-bar-suited s (u.Bar y) top = tt
-bar-suited s u.Refused top = tt
-
-in-suited : (s : Session) (y : Made) (top : Top) → Lawful (n.inboxPlan s y top)
-in-suited s (m.Ready y) top = tt
-in-suited s (m.Refused y) top = tt
-
-gives-suited : (x : Hold) (y : Buffer → Planned) (z : Planned) → ((d : Buffer) → Lawful (y d)) → Lawful z → Lawful (onHold x y z)
-gives-suited o.Absent y z h d = d
-gives-suited (o.Held x) y z h d = h x
-
-out-suited : (s : Session) (y : Made) (top : Top) → Lawful (n.outboxPlan s y top)
-out-suited s (m.Ready y) top = tt
-out-suited s (m.Refused y) top = gives-suited (s .books .held .inbox) _ _ (λ d. tt) tt
-
-prepare-suited : (s : Session) (y : End) (top : Top) (st : Prepare) → Lawful (preparePlanAt s y top st)
-prepare-suited s y top p.Attributes = attr-suited s (attrIn y) top
-prepare-suited s y top p.Claim = claim-suited s (claimIn y) top
-prepare-suited s y top p.Reset = lawful-pick (isGood (resetIn y)) _ _ tt tt
-prepare-suited s y top p.Bar = bar-suited s (barIn y) top
-prepare-suited s y top p.Inbox = in-suited s (madeIn y) top
-prepare-suited s y top p.Outbox = out-suited s (madeIn y) top
-prepare-suited s y top (p.GiveInbox z) = tt
-prepare-suited s y top p.Look = tt
-
--- WHAT IS WRITTEN before the next question changes no stage but a page list's, which posts a command
-lists-boot : (x : Work) (d : Books) (i : Info) (f : Failure) (z : Closing) (y : Listed) (st : Boot) → Suited (listsBoot (session (g.Boot st) x d i f z) y st)
-lists-boot x d i f z y b.QueryFw = tt
-lists-boot x d i f z y (b.Make v) = tt
-lists-boot x d i f z y (b.Map v r) = tt
-lists-boot x d i f z y b.RunFw = tt
-lists-boot x d i f z y b.ModStat = tt
-lists-boot x d i f z y b.DevCap = tt
-lists-boot x d i f z y (b.Port v) = tt
-lists-boot x d i f z y b.IcmSize = tt
-lists-boot x d i f z y b.InitHca = tt
-lists-boot x d i f z y b.Func = tt
-lists-boot x d i f z y b.Adapter = tt
-
--- one more fact that goes with it, E: it stands where it stood
-abbrev pub Both : Type 0 → Session → Type 0
-Both E s = Suited s × HeldAt (s .stage) (s .closing) E
-
-lists-held : (E : Type 0) (x : Work) (d : Books) (i : Info) (f : Failure) (z : Closing) (y : Listed) (st : Boot) → HeldAt (listsBoot (session (g.Boot st) x d i f z) y st .stage) (listsBoot (session (g.Boot st) x d i f z) y st .closing) E
-lists-held E x d i f z y b.QueryFw = tt
-lists-held E x d i f z y (b.Make v) = tt
-lists-held E x d i f z y (b.Map v r) = tt
-lists-held E x d i f z y b.RunFw = tt
-lists-held E x d i f z y b.ModStat = tt
-lists-held E x d i f z y b.DevCap = tt
-lists-held E x d i f z y (b.Port v) = tt
-lists-held E x d i f z y b.IcmSize = tt
-lists-held E x d i f z y b.InitHca = tt
-lists-held E x d i f z y b.Func = tt
-lists-held E x d i f z y b.Adapter = tt
-
-lists-both : (E : Type 0) (st : Stage) (x : Work) (d : Books) (i : Info) (f : Failure) (z : Closing) (y : Listed) → Both E (session st x d i f z) → Both E (listsAt (session st x d i f z) y st)
-lists-both E g.Fresh x d i f z y h = h
-lists-both E g.Open x d i f z y h = h
-lists-both E g.Ended x d i f z y h = h
-lists-both E (g.Prepare v) x d i f z y h = h
-lists-both E (g.Boot v) x d i f z y h = (lists-boot x d i f z y v, lists-held E x d i f z y v)
-lists-both E (g.Close v) x d i f z y h = h
-
-pick-both : (E : Type 0) (x : Bool) (y z : Session) → Both E y → Both E z → Both E (pick x y z)
-pick-both E true y z h d = h
-pick-both E false y z h d = d
-
-filled-both : (E : Type 0) (x : Fill) (s : Session) (i : List ℕ) → Both E s → Both E (filled x s i)
-filled-both E w.Nothing s i h = h
-filled-both E w.Outbox s i h = h
-filled-both E (w.List v) s i h =
-    pick-both E (eqb (length i) 4096) (lists s (listedOf 63 256 v)) s (lists-both E (s .stage) (s .work) (s .books) (s .info) (s .failure) (s .closing) (listedOf 63 256 v) h) h
-filled-both E w.ModStat s i h = h
-filled-both E w.InitHca s i h = h
 
 -- A STEP. A task that asks nothing of the host goes on as one
 attr-going : (v : Work) (x : AttrStep) → NoHost (attrWork v x .work .task)
@@ -516,6 +255,7 @@ fit-going k.CloseHca z x x′ f h = f h
 fit-going (k.Unmap i) z x x′ f h = f h
 fit-going k.UnmapAux z x x′ f h = f h
 fit-going k.UnmapFa z x x′ f h = f h
+fit-going k.Quiesce z x x′ f h = f h
 fit-going k.Reset z x x′ f h = f h
 fit-going (k.FreeLent i) z x x′ f h = h
 fit-going (k.FreeIcm i) z x x′ f h = h
@@ -529,55 +269,21 @@ fit-going k.Restore z x x′ f h = f h
 -- what is known of E before a step: in an opening it is so, for its closing would begin now
 abbrev pub Known : Stage → Closing → Type 0 → Type 0
 Known g.Fresh z E = ⊥
-Known g.Open z E = ⊥
+Known (g.Open y) z E = ⊥
 Known g.Ended z E = ⊥
 Known (g.Prepare y) z E = E
 Known (g.Boot y) z E = E
+Known (g.Client y) z E = Unit {0}
 Known (g.Close y) z E = HeldClose y z E
-
-module _ (E : Type 0) (d : Books) (j : Info) (f : Failure) (z : Closing) (v : Work) (r : Answer) (bytes i out : List ℕ) (top : Top) where
-  abbrev was : Stage → Session
-  was st = session st v d j f z
-
-  ended : (st : Stage) (x : Work) (y : End) → Frees E (planOf (withWork (was st) x) y out top) → Both E (begunOf (planOf (withWork (was st) x) y out top) i .session)
-  ended st x y h = filled-both E (planOf (withWork (was st) x) y out top .fill) (planOf (withWork (was st) x) y out top .session) i h
-
-  by-prepare : (st : Prepare) (x : Work) (n : Ending) → E → Both E (stepTurn (was (g.Prepare st)) r x i out top n .session)
-  unfolding preparePlan
-  by-prepare st x e.Going h = (tt, tt)
-  by-prepare st x (e.Ended y) h =
-      ended (g.Prepare st) x y (prepare-suited (withWork (was (g.Prepare st)) x) y top st, held-in (preparePlanAt (withWork (was (g.Prepare st)) x) y top st) E h)
-
-  by-boot : (st : Boot) (x : Work) (n : Ending) → E → Both E (stepTurn (was (g.Boot st)) r x i out top n .session)
-  unfolding bootPlan
-  by-boot st x e.Going h = (tt, tt)
-  by-boot st x (e.Ended y) h =
-      ended (g.Boot st) x y (boot-suited (withWork (was (g.Boot st)) x) y out top st, held-in (bootPlanAt (withWork (was (g.Boot st)) x) y out top st) E h)
-
-  by-close : (st : Close) (x : Work) (n : Ending) → FitClose st z (v .task) → (NoHost (v .task) → NoHost (x .task)) → HeldClose st z E → Both E (stepTurn (was (g.Close st)) r x i out top n .session)
-  unfolding closePlan
-  by-close st x e.Going q m h = (fit-going st z (v .task) (x .task) m q, h)
-  by-close st x (e.Ended y) q m h = ended (g.Close st) x y (close-lawful E (withWork (was (g.Close st)) x) y top st (v .task) q h)
-
-  by-stage : (st : Stage) → Fit st z (v .task) → Known st z E → Both E (stepOf (was st) r bytes i out top .session)
-  unfolding stepOf
-  by-stage g.Fresh q h = absurd h
-  by-stage g.Open q h = absurd h
-  by-stage g.Ended q h = absurd h
-  by-stage (g.Prepare st) q h = by-prepare st (workStepOf v r bytes .work) (workStepOf v r bytes .ending) h
-  by-stage (g.Boot st) q h = by-boot st (workStepOf v r bytes .work) (workStepOf v r bytes .ending) h
-  by-stage (g.Close st) q h = by-close st (workStepOf v r bytes .work) (workStepOf v r bytes .ending) q (λ m. task-going v r bytes (v .task) m) h
-
-pub step-both : (E : Type 0) (s : Session) (r : Answer) (bytes i out : List ℕ) (top : Top) → Suited s → Known (s .stage) (s .closing) E → Both E (stepOf s r bytes i out top .session)
-step-both E s r bytes i out top q h = by-stage E (s .books) (s .info) (s .failure) (s .closing) (s .work) r bytes i out top (s .stage) q h
 
 -- E becomes F: where nothing changes, and where the task asks nothing of the host
 pub held-map : (st : Stage) (z : Closing) (E F : Type 0) → (E → F) → HeldAt st z E → HeldAt st z F
 held-map g.Fresh z E F f h = tt
-held-map g.Open z E F f h = tt
+held-map (g.Open y) z E F f h = tt
 held-map g.Ended z E F f h = λ q. f (h q)
 held-map (g.Prepare y) z E F f h = tt
 held-map (g.Boot y) z E F f h = tt
+held-map (g.Client y) z E F f h = tt
 held-map (g.Close y) z E F f h = close-map y z E F f h
   where
     close-map : (y : Close) (z : Closing) (E F : Type 0) → (E → F) → HeldClose y z E → HeldClose y z F
@@ -586,6 +292,7 @@ held-map (g.Close y) z E F f h = close-map y z E F f h
     close-map (k.Unmap i) z E F f h = f h
     close-map k.UnmapAux z E F f h = f h
     close-map k.UnmapFa z E F f h = f h
+    close-map k.Quiesce z E F f h = f h
     close-map k.Reset z E F f h = f h
     close-map (k.FreeLent i) z E F f h = tt
     close-map (k.FreeIcm i) z E F f h = tt
@@ -602,6 +309,7 @@ held-step k.CloseHca z x E F f q h = f q h
 held-step (k.Unmap i) z x E F f q h = f q h
 held-step k.UnmapAux z x E F f q h = f q h
 held-step k.UnmapFa z x E F f q h = f q h
+held-step k.Quiesce z x E F f q h = f q h
 held-step k.Reset z x E F f q h = f q h
 held-step (k.FreeLent i) z x E F f q h = tt
 held-step (k.FreeIcm i) z x E F f q h = tt
@@ -611,3 +319,432 @@ held-step k.FreeInbox z x E F f q h = tt
 held-step k.FreeOutbox z x E F f q h = tt
 held-step k.Release z x E F f q h = λ r. f q (h r)
 held-step k.Restore z x E F f q h = λ r. f q (h r)
+
+-- WHAT THE PLANS KEEP, with a fact C that must be so where a client's call is under way
+module _ (C : Type 0) where
+  abbrev pub Fit : Stage → Closing → Task → Type 0
+  Fit g.Fresh z x = IsRest x
+  Fit (g.Open y) z x = IsRest x
+  Fit g.Ended z x = IsRest x
+  Fit (g.Prepare y) z x = Unit {0}
+  Fit (g.Boot y) z x = Unit {0}
+  Fit (g.Client y) z x = C
+  Fit (g.Close y) z x = FitClose y z x
+
+  abbrev pub Suited : Session → Type 0
+  Suited s = Fit (s .stage) (s .closing) (s .work .task)
+
+  abbrev Lawful : Planned → Type 0
+  Lawful y = Suited (y .session)
+
+  lawful-pick : (x : Bool) (y z : Planned) → Lawful y → Lawful z → Lawful (pick x y z)
+  lawful-pick true y z h k = h
+  lawful-pick false y z h k = k
+
+  -- FREEING: the stage frees or parts, and what the closing says stays
+  abbrev Frees : Type 0 → Planned → Type 0
+  Frees E y = Suited (y .session) × HeldAt (y .session .stage) (y .session .closing) E
+
+  frees-pick : (E : Type 0) (x : Bool) (y z : Planned) → Frees E y → Frees E z → Frees E (pick x y z)
+  frees-pick E true y z h k = h
+  frees-pick E false y z h k = k
+
+  frees-hold : (E : Type 0) (x : Hold) (y : Buffer → Planned) (z : Planned) → ((d : Buffer) → Frees E (y d)) → Frees E z → Frees E (onHold x y z)
+  frees-hold E o.Absent y z h k = k
+  frees-hold E (o.Held d) y z h k = h d
+
+  module _ (E : Type 0) (s : Session) (no : s .closing ≡ c.Kept → ⊥) (n : ℕ) where
+    given : Frees E (givenPlan s n)
+    given = (tt, λ e. absurd (no e))
+
+    out-freed : Frees E (outboxPlan s n)
+    unfolding outboxPlan
+    out-freed = frees-hold E (s .books .held .outbox) _ _ (λ d. (no, tt)) given
+
+    in-freed : Frees E (inboxPlan s n)
+    unfolding inboxPlan
+    in-freed = frees-hold E (s .books .held .inbox) _ _ (λ d. (no, tt)) out-freed
+
+    fa-freed : Frees E (faPlan s n)
+    unfolding faPlan
+    fa-freed = frees-hold E (s .books .held .fa) _ _ (λ d. (no, tt)) in-freed
+
+    aux-freed : Frees E (auxPlan s n)
+    unfolding auxPlan
+    aux-freed = frees-hold E (s .books .held .aux) _ _ (λ d. (no, tt)) fa-freed
+
+    icm-freed : (i : ℕ) → Frees E (icmPlan s i n)
+    unfolding icmPlan
+    icm-freed i = frees-pick E (ltb i (s .books .lists .ranges)) _ _ (no, tt) aux-freed
+
+    lent-freed : (i : ℕ) → Frees E (lentPlan s i n)
+    unfolding lentPlan
+    lent-freed i = frees-pick E (ltb i (s .books .lists .lends)) _ _ (no, tt) (icm-freed 0)
+
+  -- CLOSING
+  failed-suited : (s : Session) (n : ℕ) → Lawful (failedPlan s n)
+  unfolding failedPlan
+  failed-suited s n = lawful-pick (s .books .wire .silent) _ _ tt tt
+
+  stopped-suited : (s : Session) (n : ℕ) → Lawful (stoppedPlan s n)
+  unfolding stoppedPlan
+  stopped-suited s n =
+      lawful-pick (s .books .wire .silent) _ _ tt (lawful-pick (s .books .wire .running) _ _ tt (lent-freed (Unit {0}) (closesOf s c.Clean (s .books)) clean-differs n 0 .0))
+
+  fa-suited : (s : Session) (n : ℕ) → Lawful (unmapFaPlan s n)
+  unfolding unmapFaPlan
+  fa-suited s n = lawful-pick (isHeld (s .books .held .fa)) _ _ tt (stopped-suited s n)
+
+  aux-suited : (s : Session) (n : ℕ) → Lawful (unmapAuxPlan s n)
+  unfolding unmapAuxPlan
+  aux-suited s n = lawful-pick (isHeld (s .books .held .aux)) _ _ tt (fa-suited s n)
+
+  unmap-suited : (s : Session) (i n : ℕ) → Lawful (unmapPlan s i n)
+  unfolding unmapPlan
+  unmap-suited s zero n = aux-suited s n
+  unmap-suited s (suc i) n = tt
+
+  hca-suited : (s : Session) (n : ℕ) → Lawful (closeHcaPlan s n)
+  unfolding closeHcaPlan
+  hca-suited s n = lawful-pick (s .books .started) _ _ tt (unmap-suited s (s .books .lists .ranges) n)
+
+  undo-sent : (s : Session) (i : ℕ) (y : Top) → Lawful (undoSend s i y)
+  undo-sent s zero y = failed-suited s (y .count)
+  undo-sent s (suc i) y = lawful-pick (isReserved (y .op)) _ _ (failed-suited s (y .count)) tt
+
+  undo-suited : (s : Session) (i : ℕ) (y : Top) → Lawful (undoPlan s i y)
+  unfolding undoPlan
+  undo-suited s i y = lawful-pick (eqb (y .count) 0) _ _ (hca-suited s (y .count)) (undo-sent s i y)
+
+  pub stop-suited : (s : Session) (y : Top) → Lawful (stopPlan s y)
+  unfolding stopPlan
+  stop-suited s y = lawful-pick (s .books .wire .broken) _ _ tt (undo-suited s UNDOS y)
+
+  pub quiesce-suited : (s : Session) (y : Top) → Lawful (quiescePlan s y)
+  unfolding quiescePlan
+  quiesce-suited s y = lawful-pick (s .books .wire .broken) _ _ tt (undo-suited (silencedOf s) UNDOS y)
+
+  reset-suited : (s : Session) (x : ResetEnd) (n : ℕ) → Lawful (wasReset s x n)
+  reset-suited s x n = lawful-pick (isGood x) _ _ (lent-freed (Unit {0}) (closesOf s c.Reset (s .books)) reset-differs n 0 .0) tt
+
+  -- a task of a closing has ended
+  close-lawful : (E : Type 0) (s : Session) (y : End) (top : Top) (st : Close) (x : Task) → FitClose st (s .closing) x → HeldClose st (s .closing) E → Frees E (closePlanAt s y top st)
+  close-lawful E s y top (k.Undo i) x h d = (lawful-pick (isDone (cmdIn y .result)) _ _ (undo-suited (tookOf s (cmdIn y)) i top) (failed-suited (tookOf s (cmdIn y)) (top .count)), held-in (closePlanAt s y top (k.Undo i)) E d)
+  close-lawful E s y top k.CloseHca x h d = (lawful-pick (isDone (cmdIn y .result)) _ _ (unmap-suited (tookOf s (cmdIn y)) (s .books .lists .ranges) (top .count)) (failed-suited (tookOf s (cmdIn y)) (top .count)), held-in (closePlanAt s y top k.CloseHca) E d)
+  close-lawful E s y top (k.Unmap i) x h d = (lawful-pick (isDone (cmdIn y .result)) _ _ (unmap-suited (tookOf s (cmdIn y)) i (top .count)) (failed-suited (tookOf s (cmdIn y)) (top .count)), held-in (closePlanAt s y top (k.Unmap i)) E d)
+  close-lawful E s y top k.UnmapAux x h d = (lawful-pick (isDone (cmdIn y .result)) _ _ (fa-suited (tookOf s (cmdIn y)) (top .count)) (failed-suited (tookOf s (cmdIn y)) (top .count)), held-in (closePlanAt s y top k.UnmapAux) E d)
+  close-lawful E s y top k.UnmapFa x h d = (lawful-pick (isDone (cmdIn y .result)) _ _ (stopped-suited (tookOf s (cmdIn y)) (top .count)) (failed-suited (tookOf s (cmdIn y)) (top .count)), held-in (closePlanAt s y top k.UnmapFa) E d)
+  close-lawful E s y top k.Quiesce x h d = (tt, tt)
+  close-lawful E s y top k.Reset x h d = (reset-suited s (resetIn y) (top .count), held-in (closePlanAt s y top k.Reset) E d)
+  close-lawful E s y top (k.FreeLent i) x h d = lent-freed E s h (top .count) i
+  close-lawful E s y top (k.FreeIcm i) x h d = icm-freed E s h (top .count) i
+  close-lawful E s y top k.FreeAux x h d = fa-freed E s h (top .count)
+  close-lawful E s y top k.FreeFa x h d = in-freed E s h (top .count)
+  close-lawful E s y top k.FreeInbox x h d = out-freed E s h (top .count)
+  close-lawful E s y top k.FreeOutbox x h d = given E s h (top .count)
+  close-lawful E s y top k.Release x h d = (tt, d)
+  close-lawful E s y top k.Restore x h d = (tt, d)
+
+  -- A CLIENT'S CALL leads to the open session, or on to another task of the call
+  module _ (E : Type 0) (so : C) (s : Session) where
+    pub command-begins : (y : Request) (n : ℕ) → Frees E (commandPlan s y n)
+    unfolding commandPlan
+    command-begins y n = (so, tt)
+
+    pub lend-begins : (bytes n : ℕ) → Frees E (lendPlan s bytes n)
+    unfolding lendPlan
+    lend-begins bytes n = by-outcome (Frees E) (pagesFor bytes) _ _ (λ i. (so, tt)) (tt, tt)
+
+    lend-ended : (y : Made) (n : ℕ) → Frees E (lendEnded s y n)
+    lend-ended (m.Ready y) n = (tt, tt)
+    lend-ended (m.Refused y) n = (tt, tt)
+
+    client-undo : (mark i : ℕ) (y : Top) → Frees E (cl.undoSend s mark i y)
+    client-undo mark zero y = (tt, tt)
+    client-undo mark (suc i) y = frees-pick E (isReserved (y .op)) _ _ (tt, tt) (so, tt)
+
+    pub undo-begins : (mark i : ℕ) (y : Top) → Frees E (cl.undoPlan s mark i y)
+    unfolding cl.undoPlan
+    undo-begins mark i y = frees-pick E (leb (y .count) mark) _ _ (tt, tt) (frees-pick E (s .books .wire .broken) _ _ (tt, tt) (client-undo mark i y))
+
+  client-lawful : (E : Type 0) → C → (s : Session) (y : End) (top : Top) (st : Client) → Frees E (clientPlanAt s y top st)
+  client-lawful E so s y top (kc.Command f) = (tt, tt)
+  client-lawful E so s y top kc.Lend = lend-ended E so s (madeIn y) (top .count)
+  client-lawful E so s y top (kc.UndoTo mark i) = frees-pick E (isDone (cmdIn y .result)) _ _ (undo-begins E so (tookOf s (cmdIn y)) mark i top) (tt, tt)
+
+  -- OPENING
+  fail-suited : (s : Session) (y : Refusal) (top : Top) → Lawful (failPlan s y top)
+  unfolding failPlan
+  fail-suited s y top = stop-suited (n.withFailure s y) top
+
+  fail-by-suited : (s : Session) (y : CmdResult) (top : Top) → Lawful (failByPlan s y top)
+  unfolding failByPlan
+  fail-by-suited s y top = fail-suited _ _ top
+
+  make-suited : (s : Session) (x : Area) (bytes : ℕ) (top : Top) → Lawful (makePlan s x bytes top)
+  unfolding makePlan
+  make-suited s x bytes top = by-outcome Lawful (pagesFor bytes) _ _ (λ i. tt) (fail-suited s _ top)
+
+  func-suited : (s : Session) (top : Top) → Lawful (funcPlan s top)
+  unfolding funcPlan
+  func-suited s top = lawful-pick (eqb (s .info .cap .«num_sys_eqs») 0) _ _ tt tt
+
+  range-suited : (s : Session) (i : ℕ) (top : Top) → Lawful (nextRange s i top)
+  unfolding nextRange
+  range-suited s i top = lawful-pick (ltb i 13) _ _ (make-suited s _ _ top) tt
+
+  mapped-suited : (s : Session) (x : Area) (top : Top) → Lawful (mappedPlan s x top)
+  unfolding mappedPlan
+  mapped-suited s a.Fa top = tt
+  mapped-suited s a.Aux top = make-suited s _ _ top
+  mapped-suited s (a.Range i) top = range-suited s i top
+
+  map-suited : (s : Session) (x : Area) (y : Cutter) (top : Top) → Lawful (mapPlan s x y top)
+  unfolding mapPlan
+  map-suited s x y top = lawful-pick (eqb (y .left) 0) _ _ (mapped-suited s x top) tt
+
+  area-suited : (s : Session) (x : Area) (y : Made) (top : Top) → Lawful (areaPlan s x y top)
+  area-suited s x (m.Ready y) top = map-suited _ x _ top
+  area-suited s x (m.Refused y) top = fail-suited s _ top
+
+  layout-suited : (s : Session) (y : Outcome Layout) (top : Top) → Lawful (layoutPlan s y top)
+  unfolding layoutPlan
+  layout-suited s (value y) top = tt
+  layout-suited s (refused i vs) top = fail-suited s _ top
+
+  port-suited : (s : Session) (i : ℕ) (top : Top) → Lawful (portPlan s i top)
+  unfolding portPlan
+  port-suited s i top = lawful-pick (ltb i (portsOf (s .info))) _ _ tt (layout-suited s (profileOf (s .info .cap)) top)
+
+  fw-suited : (s : Session) (y : Outcome FwInfo) (z : FwInfo) (top : Top) → Lawful (fwReplied s y z top)
+  unfolding fwReplied
+  fw-suited s (value y) z top = make-suited _ a.Fa _ top
+  fw-suited s (refused i vs) z top = fail-suited _ _ top
+
+  cap-suited : (s : Session) (y : Outcome DevCap) (top : Top) → Lawful (capReplied s y top)
+  unfolding capReplied
+  cap-suited s (value y) top = port-suited _ 0 top
+  cap-suited s (refused i vs) top = fail-suited s _ top
+
+  replied-suited : (s : Session) (i : ℕ) (y : Outcome PortInfo) (top : Top) → Lawful (portReplied s i y top)
+  unfolding portReplied
+  replied-suited s i (value y) top = port-suited _ i top
+  replied-suited s i (refused j vs) top = fail-suited s _ top
+
+  func-replied : (s : Session) (y : Outcome FuncInfo) (top : Top) → Lawful (funcReplied s y top)
+  unfolding funcReplied
+  func-replied s (value y) top = tt
+  func-replied s (refused i vs) top = fail-suited s _ top
+
+  boot-suited : (s : Session) (y : End) (out : List ℕ) (top : Top) (st : Boot) → Lawful (bootPlanAt s y out top st)
+  boot-suited s y out top b.QueryFw = lawful-pick (isDone (cmdIn y .result)) _ _ (fw-suited _ (queryFwOf out (s .info .uar .index)) _ top) (fail-suited _ _ top)
+  boot-suited s y out top (b.Make x) = area-suited s x (madeIn y) top
+  boot-suited s y out top (b.Map x z) = lawful-pick (isDone (cmdIn y .result)) _ _ (map-suited _ x z top) (fail-by-suited _ _ top)
+  boot-suited s y out top b.RunFw = lawful-pick (isDone (cmdIn y .result)) _ _ tt (fail-by-suited _ _ top)
+  boot-suited s y out top b.ModStat = lawful-pick (needsReset (cmdIn y .result)) _ _ (fail-by-suited _ _ top) tt
+  boot-suited s y out top b.DevCap = lawful-pick (isDone (cmdIn y .result)) _ _ (cap-suited _ (capabilityOf out (s .info .uar .size)) top) (fail-by-suited _ _ top)
+  boot-suited s y out top (b.Port i) = lawful-pick (isDone (cmdIn y .result)) _ _ (replied-suited _ i (queryPortOf out i) top) (fail-by-suited _ _ top)
+  boot-suited s y out top b.IcmSize = lawful-pick (isDone (cmdIn y .result)) _ _ (make-suited _ a.Aux _ top) (fail-by-suited _ _ top)
+  boot-suited s y out top b.InitHca = lawful-pick (isDone (cmdIn y .result)) _ _ (func-suited _ top) (fail-by-suited _ _ top)
+  boot-suited s y out top b.Func = lawful-pick (isDone (cmdIn y .result)) _ _ (func-replied _ (queryFuncOf out) top) (fail-by-suited _ _ top)
+  boot-suited s y out top b.Adapter = tt
+
+  attr-suited : (s : Session) (y : Attributes) (top : Top) → Lawful (n.attrPlan s y top)
+  attr-suited s (at.Enabled v) top = tt
+  attr-suited s at.Refused top = tt
+
+  claim-suited : (s : Session) (y : Claimed) (top : Top) → Lawful (n.claimPlan s y top)
+  claim-suited s l.Good top = tt
+  claim-suited s l.Refused top = tt
+
+  bar-suited : (s : Session) (y : Found) (top : Top) → Lawful (n.barPlan s y top)
+  bar-suited s (u.Bar y) top = tt
+  bar-suited s u.Refused top = tt
+
+  in-suited : (s : Session) (y : Made) (top : Top) → Lawful (n.inboxPlan s y top)
+  in-suited s (m.Ready y) top = tt
+  in-suited s (m.Refused y) top = tt
+
+  gives-suited : (x : Hold) (y : Buffer → Planned) (z : Planned) → ((d : Buffer) → Lawful (y d)) → Lawful z → Lawful (onHold x y z)
+  gives-suited o.Absent y z h d = d
+  gives-suited (o.Held x) y z h d = h x
+
+  out-suited : (s : Session) (y : Made) (top : Top) → Lawful (n.outboxPlan s y top)
+  out-suited s (m.Ready y) top = tt
+  out-suited s (m.Refused y) top = gives-suited (s .books .held .inbox) _ _ (λ d. tt) tt
+
+  prepare-suited : (s : Session) (y : End) (top : Top) (st : Prepare) → Lawful (preparePlanAt s y top st)
+  prepare-suited s y top p.Attributes = attr-suited s (attrIn y) top
+  prepare-suited s y top p.Claim = claim-suited s (claimIn y) top
+  prepare-suited s y top p.Reset = lawful-pick (isGood (resetIn y)) _ _ tt tt
+  prepare-suited s y top p.Bar = bar-suited s (barIn y) top
+  prepare-suited s y top p.Inbox = in-suited s (madeIn y) top
+  prepare-suited s y top p.Outbox = out-suited s (madeIn y) top
+  prepare-suited s y top (p.GiveInbox z) = tt
+  prepare-suited s y top p.Look = tt
+
+  -- WHAT IS WRITTEN before the next question changes no stage but a page list's, which posts a command
+  lists-boot : (x : Work) (d : Books) (i : Info) (f : Failure) (z : Closing) (y : Listed) (st : Boot) → Suited (listsBoot (session (g.Boot st) x d i f z) y st)
+  lists-boot x d i f z y b.QueryFw = tt
+  lists-boot x d i f z y (b.Make v) = tt
+  lists-boot x d i f z y (b.Map v r) = tt
+  lists-boot x d i f z y b.RunFw = tt
+  lists-boot x d i f z y b.ModStat = tt
+  lists-boot x d i f z y b.DevCap = tt
+  lists-boot x d i f z y (b.Port v) = tt
+  lists-boot x d i f z y b.IcmSize = tt
+  lists-boot x d i f z y b.InitHca = tt
+  lists-boot x d i f z y b.Func = tt
+  lists-boot x d i f z y b.Adapter = tt
+
+  -- one more fact that goes with it, E: it stands where it stood
+  abbrev pub Both : Type 0 → Session → Type 0
+  Both E s = Suited s × HeldAt (s .stage) (s .closing) E
+
+  lists-held : (E : Type 0) (x : Work) (d : Books) (i : Info) (f : Failure) (z : Closing) (y : Listed) (st : Boot) → HeldAt (listsBoot (session (g.Boot st) x d i f z) y st .stage) (listsBoot (session (g.Boot st) x d i f z) y st .closing) E
+  lists-held E x d i f z y b.QueryFw = tt
+  lists-held E x d i f z y (b.Make v) = tt
+  lists-held E x d i f z y (b.Map v r) = tt
+  lists-held E x d i f z y b.RunFw = tt
+  lists-held E x d i f z y b.ModStat = tt
+  lists-held E x d i f z y b.DevCap = tt
+  lists-held E x d i f z y (b.Port v) = tt
+  lists-held E x d i f z y b.IcmSize = tt
+  lists-held E x d i f z y b.InitHca = tt
+  lists-held E x d i f z y b.Func = tt
+  lists-held E x d i f z y b.Adapter = tt
+
+  lists-both : (E : Type 0) (st : Stage) (x : Work) (d : Books) (i : Info) (f : Failure) (z : Closing) (y : Listed) → Both E (session st x d i f z) → Both E (listsAt (session st x d i f z) y st)
+  lists-both E g.Fresh x d i f z y h = h
+  lists-both E (g.Open v) x d i f z y h = h
+  lists-both E g.Ended x d i f z y h = h
+  lists-both E (g.Prepare v) x d i f z y h = h
+  lists-both E (g.Boot v) x d i f z y h = (lists-boot x d i f z y v, lists-held E x d i f z y v)
+  lists-both E (g.Client v) x d i f z y h = h
+  lists-both E (g.Close v) x d i f z y h = h
+
+  pick-both : (E : Type 0) (x : Bool) (y z : Session) → Both E y → Both E z → Both E (pick x y z)
+  pick-both E true y z h d = h
+  pick-both E false y z h d = d
+
+  filled-both : (E : Type 0) (x : Fill) (s : Session) (i : List ℕ) → Both E s → Both E (filled x s i)
+  filled-both E w.Nothing s i h = h
+  filled-both E w.Outbox s i h = h
+  filled-both E (w.List v) s i h =
+      pick-both E (eqb (length i) 4096) (lists s (listedOf 63 256 v)) s (lists-both E (s .stage) (s .work) (s .books) (s .info) (s .failure) (s .closing) (listedOf 63 256 v) h) h
+  filled-both E w.ModStat s i h = h
+  filled-both E w.InitHca s i h = h
+
+  module _ (E : Type 0) (d : Books) (j : Info) (f : Failure) (z : Closing) (v : Work) (r : Answer) (bytes i out : List ℕ) (top : Top) where
+    abbrev was : Stage → Session
+    was st = session st v d j f z
+
+    ended : (st : Stage) (x : Work) (y : End) → Frees E (planOf (withWork (was st) x) y out top) → Both E (begunOf (planOf (withWork (was st) x) y out top) i .session)
+    ended st x y h = filled-both E (planOf (withWork (was st) x) y out top .fill) (planOf (withWork (was st) x) y out top .session) i h
+
+    by-prepare : (st : Prepare) (x : Work) (n : Ending) → E → Both E (stepTurn (was (g.Prepare st)) r x i out top n .session)
+    unfolding preparePlan
+    by-prepare st x e.Going h = (tt, tt)
+    by-prepare st x (e.Ended y) h =
+        ended (g.Prepare st) x y (prepare-suited (withWork (was (g.Prepare st)) x) y top st, held-in (preparePlanAt (withWork (was (g.Prepare st)) x) y top st) E h)
+
+    by-boot : (st : Boot) (x : Work) (n : Ending) → E → Both E (stepTurn (was (g.Boot st)) r x i out top n .session)
+    unfolding bootPlan
+    by-boot st x e.Going h = (tt, tt)
+    by-boot st x (e.Ended y) h =
+        ended (g.Boot st) x y (boot-suited (withWork (was (g.Boot st)) x) y out top st, held-in (bootPlanAt (withWork (was (g.Boot st)) x) y out top st) E h)
+
+    by-client : (st : Client) (x : Work) (n : Ending) → C → Both E (stepTurn (was (g.Client st)) r x i out top n .session)
+    unfolding clientPlan
+    by-client st x e.Going h = (h, tt)
+    by-client st x (e.Ended y) h = ended (g.Client st) x y (client-lawful E h (withWork (was (g.Client st)) x) y top st)
+
+    by-close : (st : Close) (x : Work) (n : Ending) → FitClose st z (v .task) → (NoHost (v .task) → NoHost (x .task)) → HeldClose st z E → Both E (stepTurn (was (g.Close st)) r x i out top n .session)
+    unfolding closePlan
+    by-close st x e.Going q m h = (fit-going st z (v .task) (x .task) m q, h)
+    by-close st x (e.Ended y) q m h = ended (g.Close st) x y (close-lawful E (withWork (was (g.Close st)) x) y top st (v .task) q h)
+
+    by-stage : (st : Stage) → Fit st z (v .task) → Known st z E → Both E (stepOf (was st) r bytes i out top .session)
+    unfolding stepOf
+    by-stage g.Fresh q h = absurd h
+    by-stage (g.Open y) q h = absurd h
+    by-stage g.Ended q h = absurd h
+    by-stage (g.Prepare st) q h = by-prepare st (workStepOf v r bytes .work) (workStepOf v r bytes .ending) h
+    by-stage (g.Boot st) q h = by-boot st (workStepOf v r bytes .work) (workStepOf v r bytes .ending) h
+    by-stage (g.Client st) q h = by-client st (workStepOf v r bytes .work) (workStepOf v r bytes .ending) q
+    by-stage (g.Close st) q h = by-close st (workStepOf v r bytes .work) (workStepOf v r bytes .ending) q (λ m. task-going v r bytes (v .task) m) h
+
+  pub step-both : (E : Type 0) (s : Session) (r : Answer) (bytes i out : List ℕ) (top : Top) → Suited s → Known (s .stage) (s .closing) E → Both E (stepOf s r bytes i out top .session)
+  step-both E s r bytes i out top q h = by-stage E (s .books) (s .info) (s .failure) (s .closing) (s .work) r bytes i out top (s .stage) q h
+
+  -- A CALL BEGINS. C is needed of a client's call alone
+  abbrev pub Needed : Call → Type 0
+  Needed kn.Open = Unit {0}
+  Needed (kn.Command y) = C
+  Needed (kn.Lend bytes) = C
+  Needed (kn.UndoTo mark y) = C
+  Needed kn.Quiesce = Unit {0}
+  Needed kn.Close = Unit {0}
+
+  needed-by : (y : Call) → C → Needed y
+  needed-by kn.Open h = tt
+  needed-by (kn.Command y) h = h
+  needed-by (kn.Lend bytes) h = h
+  needed-by (kn.UndoTo mark y) h = h
+  needed-by kn.Quiesce h = tt
+  needed-by kn.Close h = tt
+
+  begun-frees : (E : Type 0) (y : Call) (s : Session) (top : Top) → Needed y → E → Frees E (planFor s y top)
+  begun-frees E kn.Open s top h d = (tt, tt)
+  begun-frees E (kn.Command y) s top h d = command-begins E h s y (top .count)
+  begun-frees E (kn.Lend bytes) s top h d = lend-begins E h s bytes (top .count)
+  begun-frees E (kn.UndoTo mark y) s top h d = undo-begins E h s mark UNDOS top
+  begun-frees E kn.Quiesce s top h d = (quiesce-suited s top, held-in (quiescePlan s top) E d)
+  begun-frees E kn.Close s top h d = (stop-suited (withoutFailure s) top, held-in (stopPlan (withoutFailure s) top) E d)
+
+  pub begun-suited : (y : Call) (s : Session) (top : Top) → C → Lawful (planFor s y top)
+  begun-suited y s top h = begun-frees (Unit {0}) y s top (needed-by y h) tt .0
+
+  pub begun-needs : (E : Type 0) (y : Call) (s : Session) (input i : List ℕ) (top : Top) → Needed y → E → Both E (begunTurn s y input i top .session)
+  unfolding begunTurn
+  begun-needs E y s input i top h d = filled-both E (planFor s y top .fill) (planFor s y top .session) (readyIn y input i) (begun-frees E y s top h d)
+
+  pub begun-both : (E : Type 0) (y : Call) (s : Session) (input i : List ℕ) (top : Top) → C → E → Both E (begunTurn s y input i top .session)
+  begun-both E y s input i top h d = begun-needs E y s input i top (needed-by y h) d
+
+-- C becomes D; and where no client's call is under way, any
+pub fit-map : (C D : Type 0) (st : Stage) (z : Closing) (x : Task) → (C → D) → Fit C st z x → Fit D st z x
+fit-map C D g.Fresh z x f h = h
+fit-map C D (g.Open y) z x f h = h
+fit-map C D g.Ended z x f h = h
+fit-map C D (g.Prepare y) z x f h = h
+fit-map C D (g.Boot y) z x f h = h
+fit-map C D (g.Client y) z x f h = f h
+fit-map C D (g.Close y) z x f h = h
+
+abbrev pub NotClient : Stage → Type 0
+NotClient g.Fresh = Unit {0}
+NotClient (g.Open y) = Unit {0}
+NotClient g.Ended = Unit {0}
+NotClient (g.Prepare y) = Unit {0}
+NotClient (g.Boot y) = Unit {0}
+NotClient (g.Client y) = ⊥
+NotClient (g.Close y) = Unit {0}
+
+pub fit-other : (C D : Type 0) (st : Stage) (z : Closing) (x : Task) → NotClient st → Fit C st z x → Fit D st z x
+fit-other C D g.Fresh z x n h = h
+fit-other C D (g.Open y) z x n h = h
+fit-other C D g.Ended z x n h = h
+fit-other C D (g.Prepare y) z x n h = h
+fit-other C D (g.Boot y) z x n h = h
+fit-other C D (g.Client y) z x n h = absurd n
+fit-other C D (g.Close y) z x n h = h
+
+pub not-client : (st : Stage) (z : Closing) (x : Task) → Fit ⊥ st z x → NotClient st
+not-client g.Fresh z x h = tt
+not-client (g.Open y) z x h = tt
+not-client g.Ended z x h = tt
+not-client (g.Prepare y) z x h = tt
+not-client (g.Boot y) z x h = tt
+not-client (g.Client y) z x h = h
+not-client (g.Close y) z x h = tt

@@ -6,42 +6,14 @@ use mathlib.Core.Option.{some, Option·none-ne-some}
 use mathlib.Core.Path.{_≡_, sym, _∙_}
 use Rattle.pci.specs.Script.{Ask, Reply, good, failed, configRead16, configRead32, configWrite16, configWrite32, read, write, attributes, resource, stall, allocate, mapped, unmap, free, fence}
 use Rattle.session.specs.Course.{Course, ret, ask}
-use Rattle.card.specs.Card.{Held, Command, Card, Kind, MapFa, UnmapFa, MapAux, UnmapAux, MapIcm, UnmapIcm, CloseHca, Other, kind, does, effect, Settles, same, ends, World, WorldStep, Holds, IsMap, Named, MayUse, Clear, Posts, Allowed}
+use Rattle.card.specs.Card.{Card, kind, effect, Settles, same, ends, World, WorldStep, MayUse, Clear, Posts, Allowed}
+use Rattle.card.proofs.View.{held-before}
 use Rattle.card_calls.specs.SafeCourse.{SafeCourse}
 
 pub settles-trans : (a b c : Card) → Settles a b → Settles b c → Settles a c
 settles-trans a b c same y = y
 settles-trans a b c (ends p s e) same = ends p s e
 settles-trans a b c (ends p s e) (ends q t f) = absurd (Option·none-ne-some q f)
-
--- what is held after a command is held before it, or named by it
-held-before : (k : Kind) (p : Command) (h : Held) (d : ℕ) → Holds (does k p h) d → Holds h d ⊎ (IsMap k × Named p d)
-held-before MapFa p h d (inl z) = inl (inl z)
-held-before MapFa p h d (inr (inl (inl z))) = inl (inr (inl z))
-held-before MapFa p h d (inr (inl (inr z))) = inr (tt, z)
-held-before MapFa p h d (inr (inr z)) = inl (inr (inr z))
-held-before UnmapFa p h d (inl z) = inl (inl z)
-held-before UnmapFa p h d (inr (inl z)) = absurd z
-held-before UnmapFa p h d (inr (inr z)) = inl (inr (inr z))
-held-before MapAux p h d (inl z) = inl (inl z)
-held-before MapAux p h d (inr (inl z)) = inl (inr (inl z))
-held-before MapAux p h d (inr (inr (inl (inl z)))) = inl (inr (inr (inl z)))
-held-before MapAux p h d (inr (inr (inl (inr z)))) = inr (tt, z)
-held-before MapAux p h d (inr (inr (inr z))) = inl (inr (inr (inr z)))
-held-before UnmapAux p h d (inl z) = inl (inl z)
-held-before UnmapAux p h d (inr (inl z)) = inl (inr (inl z))
-held-before UnmapAux p h d (inr (inr (inl z))) = absurd z
-held-before UnmapAux p h d (inr (inr (inr z))) = inl (inr (inr (inr z)))
-held-before MapIcm p h d (inl (x, inl z)) = inl (inl (x, z))
-held-before MapIcm p h d (inl (x, inr z)) = inr (tt, (x, z))
-held-before MapIcm p h d (inr z) = inl (inr z)
-held-before UnmapIcm p h d (inl (x, z)) = inl (inl (x, z .0))
-held-before UnmapIcm p h d (inr z) = inl (inr z)
-held-before CloseHca p h d (inl z) = inl (inl z)
-held-before CloseHca p h d (inr (inl z)) = inl (inr (inl z))
-held-before CloseHca p h d (inr (inr (inl z))) = inl (inr (inr (inl z)))
-held-before CloseHca p h d (inr (inr (inr z))) = absurd z
-held-before Other p h d z = inl z
 
 -- what the card may use then it might use before
 pub settled-uses : (c d : Card) → Settles c d → (x : ℕ) → MayUse d x → MayUse c x

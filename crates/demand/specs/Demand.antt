@@ -1,20 +1,21 @@
--- DEMAND 3. For every list of calls on a fresh session, every card from any start state with any replies, whichever bus calls fail, every host that hands out nothing in
+-- DEMAND 3. For every list of calls (open, client commands, lend, undo_to, quiesce, close, and answers; refused ones included) on a fresh session, every card from any start state with any replies, whichever bus calls fail, every host that hands out nothing in
 -- use, and any outbox and undo list at every call:
 -- (a) no page is given back, and no address unmapped, while the card may use it;
--- (b) while the session is open, the card's map is exactly the fourteen ranges of the layout, page k of each on page k of its buffer, and different card pages lie on
---     different device pages;
+-- (b) while the session is open, also while a client's call runs, until a quiesce or a close begins, the card's map is exactly the fourteen ranges of the layout, page k of
+--     each on page k of its buffer, and different card pages lie on different device pages;
 -- (c) when an opening has failed or a close has returned, every handing over was given back exactly once and the card may use no page, or nothing was ever handed over; or
 --     the session says kept, its books name all that was not given back, and closing gave none back.
 -- The theorem is `demand` of proofs/Demand.antt. The definitions, in the order of reading:
 --   card/specs/Card.antt             the card rules and the host rules; `MayUse`, `Clear`, `Allowed`
 --   card/specs/Owns.antt             `Owns`, `outs`, `backs`
---   card_calls/specs/SafeCourse.antt `Typed`, `Lendable`: what is lent has its types' widths
+--   card_calls/specs/SafeCourse.antt `Typed`, `Sized`, `Lendable`: what is lent and called has its types' widths
 --   card_calls/specs/Ranges.antt     `OnRange`, `InRanges`, `AsLaid`
 --   card_calls/specs/Holding.antt    `Boxes`
 --   demand/specs/Events.antt         `Call`, `Event`, `Stand`, `Step`
 --   this file
--- and of the code's definitions: session's `fresh`; fw's `openOf`, `closeOf`, `answerOf`, `asksOf`; pci's `replyOf`; closing's `lendsFrom`; opening's `rangeAt`.
+-- and of the code's definitions: session's `fresh`; calls' `callOf`, `callIn`; fw's `answerOf`, `answerIn`, `asksOf`; pci's `replyOf`; closing's `lendsFrom`; opening's `rangeAt`.
 use Prim.Native.Nat.{ℕ}
+use mathlib.Core.Bool.{false}
 use mathlib.Core.List.{List, [], _∷_}
 use mathlib.Core.Logic.{_⊎_, _↔_}
 use mathlib.Core.Option.{Option, some, none}
@@ -63,15 +64,20 @@ EndedBy base b w k c.Clean = Returned w
 EndedBy base b w k c.Reset = Returned w
 EndedBy base b w k c.Kept = Kept base b w k
 
--- while a call runs, and before the first, nothing more is said than (a)
+-- while an opening or a closing runs, and before the first call, nothing more is said than (a)
 pub record Nothing : Type 1 where
+
+-- a session is silent from when a quiesce begins
+abbrev pub UntilQuiet : Stand → Type 1
+UntilQuiet x = x .session .books .wire .silent ≡ false → Exact (x .session .info) (x .session .books) (x .world)
 
 abbrev pub GoodAt : (ℕ → Option Hold) → Stage → Stand → Type 1
 GoodAt base g.Fresh x = Nothing
-GoodAt base g.Open x = Exact (x .session .info) (x .session .books) (x .world)
+GoodAt base (g.Open y) x = UntilQuiet x
 GoodAt base g.Ended x = EndedBy base (x .session .books) (x .world) (x .began) (x .session .closing)
 GoodAt base (g.Prepare y) x = Nothing
 GoodAt base (g.Boot y) x = Nothing
+GoodAt base (g.Client y) x = UntilQuiet x
 GoodAt base (g.Close y) x = Nothing
 
 pub record Good (base : ℕ → Option Hold) (x : Stand) : Type 1 where

@@ -13,20 +13,27 @@ use Rattle.pci.specs.declared.Question.the-variants as q
 use Rattle.pci.specs.declared.Answer.{Answer}
 use Rattle.session.specs.Course.{Lent}
 use Rattle.session.specs.declared.Top.{Top}
+use Rattle.dma.specs.declared.Buffer.{Buffer}
+use Rattle.session.specs.declared.Gave.{Gave}
+use Rattle.session.specs.declared.Gave.the-variants as v
+use Rattle.session.specs.declared.Client.the-variants as k
 use Rattle.session.specs.declared.Stage.{Stage}
 use Rattle.session.specs.declared.Stage.the-variants as g
 use Rattle.session.specs.declared.Failure.{Failure}
 use Rattle.session.specs.declared.Failure.the-variants as f
 use Rattle.session.specs.declared.Session.{Session}
-use Rattle.fw.specs.Calls.{asksOf, openOf, closeOf, answerOf, answerIn}
+use Rattle.fw.specs.Calls.{asksOf, answerOf, answerIn}
+use Rattle.calls.specs.Calls.{callOf, callIn}
+use Rattle.calls.specs.declared.Call.{Call as Made}
+use Rattle.calls.specs.declared.Call.the-variants as c
 use Rattle.fw.specs.declared.Turn.{Turn}
-use Rattle.card.specs.Card.{Settles, Host, World, WorldStep}
-use Rattle.card_calls.specs.SafeCourse.{Lendable}
+use Rattle.card.specs.Card.{Settles, Host, World, WorldStep, Meets, lendTo}
+use Rattle.card.specs.Owns.{spotOf}
+use Rattle.card_calls.specs.SafeCourse.{Lendable, Sized}
 
 -- THE CALLS
 pub data Call : Type 0 where
-  callOpen : Call
-  callClose : Call
+  callMake : Made → (input : List ℕ) → Call
   callAnswer : Answer → (resource : List ℕ) → Call
 
 -- a call with what is lent to it
@@ -38,16 +45,14 @@ pub record Event : Type 0 where
 
 -- what a call gives, and the inbox that it leaves
 abbrev pub turnBy : Call → Session → (inbox outbox : List ℕ) → Top → Turn
-turnBy callOpen s i o u = openOf s i o u
-turnBy callClose s i o u = closeOf s i o u
+turnBy (callMake c y) s i o u = callOf s c y i o u
 turnBy (callAnswer a r) s i o u = answerOf s a r i o u
 
 abbrev pub turn : Session → Event → Turn
 turn s e = turnBy (e .call) s (e .inbox) (e .outbox) (e .undo)
 
 abbrev pub inboxBy : Call → Session → (inbox outbox : List ℕ) → Top → List ℕ
-inboxBy callOpen s i o u = i
-inboxBy callClose s i o u = i
+inboxBy (callMake c y) s i o u = callIn s c y i o u
 inboxBy (callAnswer a r) s i o u = answerIn s a r i o u
 
 abbrev pub inboxAfter : Session → Event → List ℕ
@@ -87,8 +92,7 @@ abbrev pub Answers : Session → (inbox : List ℕ) → Answer → (resource : L
 Answers s i a r w v = (y : Ask) × (z : Reply y) × (asked (asksOf s) i ≡ some y) × (replyOf y a r ≡ some z) × WorldStep w y z v
 
 abbrev pub HappensBy : Call → Session → (inbox : List ℕ) → World → World → Type 1
-HappensBy callOpen s i w v = Rests w v
-HappensBy callClose s i w v = Rests w v
+HappensBy (callMake c y) s i w v = Rests w v
 HappensBy (callAnswer a r) s i w v = Answers s i a r w v
 
 -- "an answer refused with 20 or 21 neither reports nor hands over anything"
@@ -107,11 +111,59 @@ boxLeft (f.By y) i l = l
 
 abbrev pub isClosing : Stage → Bool
 isClosing g.Fresh = false
-isClosing g.Open = false
+isClosing (g.Open y) = false
 isClosing g.Ended = false
 isClosing (g.Prepare y) = false
 isClosing (g.Boot y) = false
+isClosing (g.Client y) = false
 isClosing (g.Close y) = true
+
+-- WHAT IS LENT TO THE CARD: "lent pages until CLOSE_HCA succeeds". A buffer is lent when a lending has given it to the client
+abbrev pub isLending : Stage → Bool
+isLending g.Fresh = false
+isLending (g.Open y) = false
+isLending g.Ended = false
+isLending (g.Prepare y) = false
+isLending (g.Boot y) = false
+isLending (g.Client (k.Command y)) = false
+isLending (g.Client k.Lend) = true
+isLending (g.Client (k.UndoTo n m)) = false
+isLending (g.Close y) = false
+
+abbrev pub bufferOf : Gave → Option Buffer
+bufferOf v.Nothing = none
+bufferOf (v.Command y us) = none
+bufferOf (v.Lent b) = some b
+bufferOf (v.Failed y) = none
+
+abbrev pub givenAt : Stage → Option Buffer
+givenAt g.Fresh = none
+givenAt (g.Open y) = bufferOf y
+givenAt g.Ended = none
+givenAt (g.Prepare y) = none
+givenAt (g.Boot y) = none
+givenAt (g.Client y) = none
+givenAt (g.Close y) = none
+
+abbrev pub lentNow : (before after : Stage) → Option Buffer
+lentNow s t = pick (isLending s) (givenAt t) none
+
+abbrev pub lendsTo : Option Buffer → World → World
+lendsTo none w = w
+lendsTo (some b) w = record { card = lendTo (Meets (spotOf b)) (w .card); host = w .host }
+
+-- the numbers of a call are those of its type
+abbrev pub SizedMade : Made → Type 0
+SizedMade c.Open = Unit {0}
+SizedMade (c.Command y) = Sized y
+SizedMade (c.Lend bytes) = Unit {0}
+SizedMade (c.UndoTo mark r) = Unit {0}
+SizedMade c.Quiesce = Unit {0}
+SizedMade c.Close = Unit {0}
+
+abbrev pub SizedCall : Call → Type 0
+SizedCall (callMake c y) = SizedMade c
+SizedCall (callAnswer a r) = Unit {0}
 
 abbrev pub lentBy : Event → Lent
 lentBy e = record { outbox = e .outbox; undo = e .undo }
@@ -120,7 +172,11 @@ lentBy e = record { outbox = e .outbox; undo = e .undo }
 pub record Step (x : Stand) (e : Event) (y : Stand) : Type 1 where
   pub session : y .session ≡ turn (x .session) e .session
   pub lendable : Lendable (lentBy e)
+  pub sized : SizedCall (e .call)
   pub lent : SameBox (turn (x .session) e .refusal) (e .inbox) (x .inbox)
   pub left : y .inbox ≡ boxLeft (turn (x .session) e .refusal) (inboxAfter (x .session) e) (x .inbox)
-  pub world : Happens (turn (x .session) e .refusal) (e .call) (x .session) (e .inbox) (x .world) (y .world)
+  -- the card and the host once the question is answered; then what the call has lent is lent
+  pub between : World
+  pub happens : Happens (turn (x .session) e .refusal) (e .call) (x .session) (e .inbox) (x .world) between
+  pub world : y .world ≡ lendsTo (lentNow (x .session .stage) (y .session .stage)) between
   pub began : y .began ≡ pick (isClosing (x .session .stage)) (x .began) (y .world .host)

@@ -1,0 +1,272 @@
+-- The courses of a client's calls keep to the card rules, and leave an open session as it was: a command has no effect on what the card holds, a lending adds a buffer to
+-- the books.
+use Prim.Native.Nat.{ℕ, zero, suc, _^_, _<_, _≤_}
+use native.Mathlib.Omega.{arith}
+use mathlib.Core.Bool.{Bool, true, false, not, false≢true}
+use mathlib.Core.List.{List, _∷_}
+use mathlib.Core.Logic.{_⊎_, inl, inr, ⊎-elim}
+use mathlib.Core.Option.{Option, some, none}
+use mathlib.Core.Path.{_≡_, refl, sym, _∙_, ap, subst}
+use lib.Dec.{leb}
+use lib.ListN.{length, getD}
+use Rattle.fields.specs.Outcome.{pick, value}
+use Rattle.dma.specs.declared.Buffer.{Buffer}
+use Rattle.hcr.specs.Words.{isReserved}
+use Rattle.hcr.specs.declared.Post.{Post}
+use Rattle.pci.specs.declared.Refusal.the-variants as x
+use Rattle.command.specs.declared.CmdEnd.{CmdEnd}
+use Rattle.command.specs.declared.CmdResult.{CmdResult}
+use Rattle.command.specs.declared.CmdResult.the-variants as r
+use Rattle.buffer.specs.Buffer.{making}
+use Rattle.buffer.specs.declared.Made.{Made}
+use Rattle.buffer.specs.declared.Made.the-variants as m
+use Rattle.session.specs.Session.{wired, after, broken, endSeen, deviceOf, lentTo}
+use Rattle.session.specs.Failures.{faultOf, brokenBy, needsReset}
+use Rattle.session.specs.Course.{Course, ret, Here, here, left, blank, sends, Rest, atRest}
+use Rattle.session.specs.declared.Wire.{Wire}
+use Rattle.session.specs.declared.Books.{Books}
+use Rattle.session.specs.declared.Held.{Held as Boxen}
+use Rattle.session.specs.declared.Info.{Info}
+use Rattle.session.specs.declared.Form.{Form}
+use Rattle.session.specs.declared.Form.the-variants as o
+use Rattle.session.specs.declared.Gave.{Gave}
+use Rattle.session.specs.declared.Gave.the-variants as v
+use Rattle.session.specs.declared.Stage.the-variants as g
+use Rattle.session.specs.declared.Failure.{Failure}
+use Rattle.session.specs.declared.Closing.{Closing}
+use Rattle.closing.specs.Closing.{isDone, lendsFrom, undoPost, popped, UNDOS}
+use Rattle.client.specs.Client.{takesInput, givesOutput, inAddress, outAddress, postOf, inputIn, outputIn, readied, gaveBy, gives, commanding, lentBy, lending, undoing, undoingTo}
+use Rattle.client.specs.declared.Request.{Request}
+use Rattle.calls.proofs.Begins.{length-input}
+use Rattle.card.specs.Card.{Held, Command, Card, Settles, Other, kind, IsMap, Meets, Hold, Host, World, MayUse, mailAt}
+use Rattle.card.specs.Safe.{Safe}
+use Rattle.card.proofs.Fixed.{safe-fixed}
+use Rattle.card.specs.Owns.{Owns, InBooks, spotOf}
+use Rattle.card.specs.Known.{Fits, Out, Quiet, Within, postedAs}
+use Rattle.card.proofs.Command.{out-within, quiet-stable, within-more, within-stable}
+use Rattle.card.proofs.Owns.{owns-perm}
+use Rattle.card.proofs.Making.{MadePost, safe-making}
+use Rattle.card.proofs.View.{other-effect}
+use Rattle.card_calls.specs.SafeCourse.{Typed, Sized, SafeCourse}
+use Rattle.card_calls.specs.Holding.{Boxes, Calm, Mine, Entries, Uses, Lies, Opened, Idle, lents}
+use Rattle.card_calls.proofs.Courses.{Fair, zeros, safe-task, safe-sends, course-pick}
+use Rattle.card_calls.proofs.Closing.{fits-undo, popped-fair, unreserved-small, unreserved-other}
+use Rattle.card_calls.proofs.Commands.{own-calm, own-mine}
+use Rattle.card_calls.proofs.Books.{uses-bound, lentIn, lends-enters, lent-perm, lent-entries, lent-old, lent-new, all-old}
+use Rattle.card_calls.proofs.Idle.{moved-boxes, wired-entries, wired-card, wired-bound, idle-wired}
+
+-- what the card may use lies in the buffers
+uses-lies : (b : Books) (c : Card) → Within (Uses b) (Calm b) c → Within (Lies b) (Mine b) c
+uses-lies b c x = within-more (Uses b) (Lies b) (Calm b) (Mine b) c (λ k y. record { within = uses-bound b k y }) (λ p y. y .1) x
+
+-- what a call gave is in the books
+abbrev pub Given : Gave → Books → Type 0
+Given v.Nothing b = Unit {0}
+Given (v.Command y us) b = Unit {0}
+Given (v.Lent y) b = (d : ℕ) → Meets (spotOf y) d → InBooks (lents b) d
+Given (v.Failed y) b = Unit {0}
+
+given-by : (k : Form) (a : CmdResult) (b : Books) → Given (gaveBy k a) b
+given-by k (r.Done y us) b = tt
+given-by k (r.Status s us) b = tt
+given-by k (r.Timeout us) b = tt
+given-by k r.Busy b = tt
+given-by k (r.Bus us) b = tt
+
+module _ (base : ℕ → Option Hold) (n : Info) (f : Failure) (z : Closing) (P : World → Rest → Type 1)
+    (idles : (y : Gave) (b : Books) (v : World) → Given y b → Idle base n b v → P v (atRest (g.Open y) b n f z)) where
+  -- A COMMAND OF NO EFFECT on an open session
+  module _ (b : Books) (p : Post) (other : kind (p .op) ≡ Other) (K : CmdResult → Books → Here → Course Rest) (h : Here) (w : World) (q : Fair h) (i : Idle base n b w) (fits : Fits p (mailAt (w .host) (h .inbox))) where
+    abbrev sent : Command
+    sent = postedAs (b .wire .toggle) p (mailAt (w .host) (h .inbox))
+
+    own : Calm b sent
+    own = own-calm b (w .host) (i .boxes) (b .wire .toggle) p (h .inbox) other
+
+    -- whether its end was seen is in the books, and then none is pending
+    seen : (Q : Command → Type 0) (H : Held → Type 1) (a : CmdResult) (c : Card) → Out sent H Q a c → not (endSeen a) ≡ false → c .pending ≡ none
+    seen Q H (r.Done y us) c x e = x .0
+    seen Q H (r.Status s us) c x e = x .0
+    seen Q H (r.Timeout us) c x e = absurd (false≢true (sym e))
+    seen Q H r.Busy c x e = absurd (false≢true (sym e))
+    seen Q H (r.Bus us) c x e = absurd (false≢true (sym e))
+
+    -- before a quiesce, and from it on
+    before : (t : Bool) → b .wire .silent ≡ t → ((e : CmdEnd) (j : Here) (v : World) → Fair j → Idle base n (wired b (after (b .wire) e)) v → SafeCourse v (K (e .result) (wired b (after (b .wire) e)) j) P)
+        → SafeCourse w (sends b p K h) P
+    before true s k =
+        safe-sends b p K (Lies b) (Mine b) P h w q fits (i .bound)
+        (λ v a j d e m. k a j v d (record {
+          owns = subst (Owns base (lendsFrom b 0)) (sym e) (i .owns);
+          boxes = moved-boxes b (after (b .wire) a) (w .host) (v .host) e (i .boxes);
+          entries = wired-entries b (after (b .wire) a) (i .entries);
+          bound = wired-bound b (after (b .wire) a) (v .card) (out-within sent (Lies b) (Mine b) (λ y x. subst (Lies b) (sym (other-effect sent y other)) x) (own .1) (a .result) (v .card) m);
+          exact = λ t. absurd (false≢true (sym t ∙ s));
+          broken = λ t. i .broken s;
+        }))
+    before false s k =
+        safe-sends b p K (Uses b) (Calm b) P h w q fits (i .exact s .card)
+        (λ v a j d e m.
+        let card : Within (Uses b) (Calm b) (v .card) = out-within sent (Uses b) (Calm b) (λ y x. subst (Uses b) (sym (other-effect sent y other)) x) own (a .result) (v .card) m in
+        k a j v d (record {
+          owns = subst (Owns base (lendsFrom b 0)) (sym e) (i .owns);
+          boxes = moved-boxes b (after (b .wire) a) (w .host) (v .host) e (i .boxes);
+          entries = wired-entries b (after (b .wire) a) (i .entries);
+          bound = wired-bound b (after (b .wire) a) (v .card) (uses-lies b (v .card) card);
+          exact = λ t. record {
+            fourteen = i .exact s .fourteen;
+            laid = i .exact s .laid;
+            started = i .exact s .started;
+            card = wired-card b (after (b .wire) a) (v .card) card;
+            quiet = λ t. seen (Calm b) (Uses b) (a .result) (v .card) m t;
+          };
+          broken = λ t. absurd (false≢true (sym s ∙ t));
+        }))
+
+    pub idle-sends : ((e : CmdEnd) (j : Here) (v : World) → Fair j → Idle base n (wired b (after (b .wire) e)) v → SafeCourse v (K (e .result) (wired b (after (b .wire) e)) j) P) → SafeCourse w (sends b p K h) P
+    idle-sends k = before (b .wire .silent) refl k
+
+  -- the session is broken, or not: all else is as it was
+  idle-broken : (b : Books) (v : World) → Idle base n b v → Idle base n (wired b (broken (b .wire))) v
+  idle-broken b v i = idle-wired base n b (broken (b .wire)) v refl (λ e. refl) (λ e. e) i
+
+  broken-by : (a : CmdResult) (b : Books) (v : World) → Idle base n b v → Idle base n (brokenBy a b) v
+  broken-by a b v i = by (needsReset a)
+    where
+      by : (t : Bool) → Idle base n (pick t (wired b (broken (b .wire))) b) v
+      by true = idle-broken b v i
+      by false = i
+
+  -- A CLIENT'S COMMAND
+  ready-fair : (k : Form) (y : List ℕ) (h : Here) → Fair h → Fair (readied k y h)
+  ready-fair k y h q = record {
+    inbox = length-input (takesInput k) y (h .inbox) ∙ q .inbox;
+    outbox = by (givesOutput k);
+    undo = q .undo;
+  }
+    where
+      by : (t : Bool) (j : ℕ) → getD (pick t (blank (h .outbox)) (h .outbox)) j 0 < 256
+      by true j = zeros (length (h .outbox)) j
+      by false j = q .outbox j
+
+  in-small : (k : Form) (e : Boxen) (y : ℕ) → deviceOf (e .inbox) < 2 ^ 64 → y < 2 ^ 64 → inAddress e k y < 2 ^ 64
+  in-small o.Imm e y a b = b
+  in-small o.WithIn e y a b = a
+  in-small o.WithOut e y a b = omega arith
+  in-small o.InImm e y a b = a
+  in-small o.InOut e y a b = a
+
+  out-small : (k : Form) (e : Boxen) → deviceOf (e .outbox) < 2 ^ 64 → outAddress e k < 2 ^ 64
+  out-small o.Imm e a = omega arith
+  out-small o.WithIn e a = omega arith
+  out-small o.WithOut e a = a
+  out-small o.InImm e a = omega arith
+  out-small o.InOut e a = a
+
+  pub safe-commanding : (y : Request) (input : List ℕ) (b : Books) (h : Here) (w : World) → isReserved (y .op) ≡ false → Sized y → Fair h → Idle base n b w → SafeCourse w (commanding n f z y input b h) P
+  unfolding commanding
+  safe-commanding y input b h w u s q i =
+      idle-sends b (postOf (b .held) y) (unreserved-other (y .op) u) (λ a d j. gives n f z (gaveBy (y .form) a) (brokenBy a d) j) (readied (y .form) input h) w (ready-fair (y .form) input h q) i
+      (record {
+        op = unreserved-small (y .op) u;
+        opMod = s .opMod;
+        inMod = s .inMod;
+        inParam = in-small (y .form) (b .held) (y .«in_param») (subst (λ (k : ℕ). k < 2 ^ 64) (sym (ap deviceOf (i .boxes .inHeld))) (i .boxes .inLess)) (s .inParam);
+        outParam = out-small (y .form) (b .held) (subst (λ (k : ℕ). k < 2 ^ 64) (sym (ap deviceOf (i .boxes .outHeld))) (i .boxes .outLess));
+        addressed = λ t. absurd (subst IsMap (unreserved-other (y .op) u) t);
+      })
+      (λ e j v k d. idles (gaveBy (y .form) (e .result)) (brokenBy (e .result) (wired b (after (b .wire) e))) v (given-by (y .form) (e .result) (brokenBy (e .result) (wired b (after (b .wire) e)))) (broken-by (e .result) (wired b (after (b .wire) e)) v d))
+
+  -- UNDO RECORDS
+  safe-undoing : (mark m : ℕ) (b : Books) (h : Here) (w : World) → Fair h → Idle base n b w → SafeCourse w (undoing n f z mark m b h) P
+  unfolding undoing
+  safe-undoing mark zero b h w q i =
+      course-pick (leb (h .undo .count) mark) _ _ w P (λ t. idles v.Nothing b w tt i)
+      (λ t. course-pick (b .wire .broken) _ _ w P (λ d. idles (v.Failed x.Undo) b w tt i) (λ d. idles (v.Failed x.Undo) (wired b (broken (b .wire))) w tt (idle-broken b w i)))
+  safe-undoing mark (suc m) b h w q i =
+      course-pick (leb (h .undo .count) mark) _ _ w P (λ t. idles v.Nothing b w tt i)
+      (λ t. course-pick (b .wire .broken) _ _ w P (λ d. idles (v.Failed x.Undo) b w tt i)
+      (λ d. course-pick (isReserved (h .undo .op)) _ _ w P (λ e. idles (v.Failed x.Opcode) b w tt i)
+      (λ e. idle-sends b (undoPost (h .undo)) (unreserved-other (h .undo .op) e)
+      (λ a d j. pick (isDone a) (undoing n f z mark m d j) (gives n f z (v.Failed x.Undo) (wired d (broken (d .wire))) j)) (here (h .inbox) (h .outbox) (popped (h .undo))) w (popped-fair h q) i
+      (fits-undo (h .undo) _ (q .undo) e)
+      (λ a j u k s. course-pick (isDone (a .result)) _ _ u P (λ t. safe-undoing mark m (wired b (after (b .wire) a)) j u k s)
+      (λ t. idles (v.Failed x.Undo) (wired (wired b (after (b .wire) a)) (broken (after (b .wire) a))) u tt (idle-broken (wired b (after (b .wire) a)) u s))))))
+
+  pub safe-undoing-to : (mark : ℕ) (b : Books) (h : Here) (w : World) → Fair h → Idle base n b w → SafeCourse w (undoingTo n f z mark b h) P
+  safe-undoing-to mark b h w q i = safe-undoing mark UNDOS b h w q i
+
+  -- A LENDING
+  abbrev Kept : Books → Card → Type 1
+  Kept b c = Within (Lies b) (Mine b) c × (b .wire .silent ≡ false → Within (Uses b) (Calm b) c × (b .wire .running ≡ false → c .pending ≡ none))
+
+  kept-stable : (b : Books) (c d : Card) → Settles c d → Kept b c → Kept b d
+  kept-stable b c d s x = (
+    within-stable (Lies b) (Mine b) c d s (x .0),
+    λ t. let y = x .1 t in (within-stable (Uses b) (Calm b) c d s (y .0), λ e. still c d s (y .1 e)),
+  )
+    where
+      still : (c d : Card) → Settles c d → c .pending ≡ none → d .pending ≡ none
+      still c d s e = quiet-stable (λ g. g ≡ g) c d s (e, refl) .0
+
+  -- all that the card may use lies in the buffers
+  kept-bound : (b : Books) (c : Card) → Kept b c → (d : ℕ) → MayUse c d → InBooks (lendsFrom b 0) d
+  kept-bound b c x d (inl y) = x .0 .now .within d y
+  kept-bound b c x d (inr (p, e, y)) = x .0 .then p e .0 d y
+
+  pub safe-lending : (bytes : ℕ) (b : Books) (h : Here) (w : World) → b .lists .lends < 64 → Fair h → Idle base n b w → SafeCourse w (lending n f z bytes b h) P
+  unfolding lending
+  safe-lending bytes b h w less q i =
+      safe-task (λ y j. lentBy n f z y b j) After P (making bytes) h w q
+      (safe-fixed (h .inbox) (making bytes) w (Had bytes b w) (spotOf (i .boxes .inbox)) (spotOf (i .boxes .outbox)) (i .boxes .inAt) (i .boxes .outAt)
+      (safe-making (h .inbox) base (lendsFrom b 0) (Kept b) (kept-stable b) (kept-bound b) (w .host) bytes w refl (i .owns) (i .bound, λ s. (i .exact s .card, i .exact s .quiet)))) at
+    where
+      Had : ℕ → Books → World → World → Made → Type 1
+      Had bytes b w = MadePost (h .inbox) base (lendsFrom b 0) (Kept b) (kept-stable b) (kept-bound b) (w .host) bytes
+
+      After : World → Made → Type 1
+      After v y = Had bytes b w v y × ((v .host .inbox ≡ some (spotOf (i .boxes .inbox))) × (v .host .outbox ≡ some (spotOf (i .boxes .outbox))))
+
+      -- the mailboxes are where they were
+      boxed : (d : Books) (k : Host) → d .held .inbox ≡ b .held .inbox → d .held .outbox ≡ b .held .outbox → (k .inbox ≡ some (spotOf (i .boxes .inbox))) × (k .outbox ≡ some (spotOf (i .boxes .outbox))) → Boxes d k
+      boxed d k p p′ s = record {
+        inbox = i .boxes .inbox;
+        outbox = i .boxes .outbox;
+        inHeld = p ∙ i .boxes .inHeld;
+        outHeld = p′ ∙ i .boxes .outHeld;
+        inAt = s .0;
+        outAt = s .1;
+        inLess = i .boxes .inLess;
+        outLess = i .boxes .outLess;
+      }
+
+      -- what the card may use lies in the longer list too
+      more-bound : (y : Buffer) (c : Card) → Within (Lies b) (Mine b) c → Within (Lies (lentIn b y)) (Mine (lentIn b y)) c
+      more-bound y c k =
+          within-more (Lies b) (Lies (lentIn b y)) (Mine b) (Mine (lentIn b y)) c (λ j e. record { within = λ d t. all-old b (i .entries) less y d (e .within d t) })
+          (λ p e d t. all-old b (i .entries) less y d (e d t)) k
+
+      more-card : (y : Buffer) (c : Card) → Within (Uses b) (Calm b) c → Within (Uses (lentIn b y)) (Calm (lentIn b y)) c
+      more-card y c k =
+          within-more (Uses b) (Uses (lentIn b y)) (Calm b) (Calm (lentIn b y)) c
+          (λ j e. record { icm = e .icm; firmware = e .firmware; auxiliary = e .auxiliary; lent = λ d t. lent-old b (i .entries) less y d (e .lent d t) })
+          (λ p e. (e .0, λ d t. all-old b (i .entries) less y d (e .1 d t))) k
+
+      at : (u : World) (y : Made) (j : Here) → Fair j → j .inbox ≡ h .inbox → After u y → SafeCourse u (lentBy n f z y b j) P
+      at u (m.Refused e) j k d (s, fixed) = idles (v.Failed (faultOf e)) b u tt (record {
+        owns = s .0;
+        boxes = boxed b (u .host) refl refl fixed;
+        entries = i .entries;
+        bound = s .1 .0;
+        exact = λ t. let a = i .exact t in record { fourteen = a .fourteen; laid = a .laid; started = a .started; card = s .1 .1 t .0; quiet = s .1 .1 t .1 };
+        broken = i .broken;
+      })
+      at u (m.Ready y) j k d (s, fixed) =
+          subst (λ (e : Books). P u (atRest (g.Open (v.Lent y)) e n f z)) (sym (lends-enters b y less)) (idles (v.Lent y) (lentIn b y) u (lent-new b (i .entries) less y) (record {
+            owns = owns-perm base (y ∷ lendsFrom b 0) (lendsFrom (lentIn b y) 0) (u .host) (lent-perm b (i .entries) less y) (s .0);
+            boxes = boxed (lentIn b y) (u .host) refl refl fixed;
+            entries = lent-entries b (i .entries) less y;
+            bound = more-bound y (u .card) (s .1 .0);
+            exact = λ t. let a = i .exact t in record { fourteen = a .fourteen; laid = a .laid; started = a .started; card = more-card y (u .card) (s .1 .1 t .0); quiet = s .1 .1 t .1 };
+            broken = i .broken;
+          }))

@@ -1,0 +1,153 @@
+-- While a client's call is under way the books stay as they were but for the command register.
+use Prim.Native.Nat.{ℕ, zero, suc, _*_}
+use mathlib.Core.Bool.{Bool, true, false}
+use mathlib.Core.List.{List}
+use mathlib.Core.Path.{_≡_, refl, sym, subst, ap, _∙_}
+use lib.Dec.{leb}
+use Rattle.fields.specs.Outcome.{Outcome, value, refused, pick}
+use Rattle.dma.specs.Buffers.{pagesFor}
+use Rattle.hcr.specs.Words.{isReserved}
+use Rattle.hcr.specs.declared.Post.{Post}
+use Rattle.pci.specs.declared.Answer.{Answer}
+use Rattle.pci.specs.declared.Refusal.the-variants as x
+use Rattle.buffer.specs.Buffer.{byOutcome}
+use Rattle.buffer.specs.declared.Made.{Made}
+use Rattle.buffer.specs.declared.Made.the-variants as m
+use Rattle.buffer.specs.declared.MakePhase.the-variants as mp
+use Rattle.work.specs.Work.{workStepOf}
+use Rattle.work.specs.declared.Work.{Work}
+use Rattle.work.specs.declared.End.{End}
+use Rattle.work.specs.declared.Ending.{Ending}
+use Rattle.work.specs.declared.Ending.the-variants as e
+use Rattle.work.specs.declared.Task.the-variants as t
+use Rattle.session.specs.Session.{session, starts, sendsOf, tookOf, breaksOf, planned, wired}
+use Rattle.session.specs.Failures.{madeIn}
+use Rattle.session.specs.declared.Top.{Top}
+use Rattle.session.specs.declared.Books.{Books}
+use Rattle.session.specs.declared.Gave.{Gave}
+use Rattle.session.specs.declared.Gave.the-variants as v
+use Rattle.session.specs.declared.Client.{Client}
+use Rattle.session.specs.declared.Client.the-variants as k
+use Rattle.session.specs.declared.Stage.{Stage}
+use Rattle.session.specs.declared.Stage.the-variants as g
+use Rattle.session.specs.declared.Fill.{Fill}
+use Rattle.session.specs.declared.Fill.the-variants as w
+use Rattle.session.specs.declared.Session.{Session}
+use Rattle.session.specs.declared.Planned.{Planned}
+use Rattle.closing.specs.Closing.{isDone, undoPost, popped, UNDOS}
+use Rattle.closing.specs.Plan.{cmdIn}
+use Rattle.client.specs.Client.{givesOutput, postOf}
+use Rattle.client.specs.Plan.{restPlan, commandPlan, lendPlan, lendEnded, undoSend, undoPlan, clientPlan}
+use Rattle.client.specs.declared.Request.{Request}
+use Rattle.fw.specs.Calls.{planOf, planAt, filled, withWork, begunOf, stepTurn, stepOf}
+use Rattle.calls.specs.Calls.{planFor, readyIn, begunTurn}
+use Rattle.calls.specs.declared.Call.{Call}
+use Rattle.calls.specs.declared.Call.the-variants as c
+
+abbrev pub IsClient : Stage → Type 0
+IsClient g.Fresh = ⊥
+IsClient (g.Open y) = ⊥
+IsClient g.Ended = ⊥
+IsClient (g.Prepare y) = ⊥
+IsClient (g.Boot y) = ⊥
+IsClient (g.Client y) = Unit {0}
+IsClient (g.Close y) = ⊥
+
+-- the same books but for the command register, which is as silent as before, and the same word of the card
+pub record Same (s u : Session) : Type 0 where
+  pub books : u .books ≡ wired (s .books) (u .books .wire)
+  pub silent : u .books .wire .silent ≡ s .books .wire .silent
+  pub info : u .info ≡ s .info
+
+pub record Steady (s : Session) (p : Planned) : Type 0 where
+  pub fill : p .fill ≡ w.Nothing
+  pub same : IsClient (p .session .stage) → Same s (p .session)
+
+steady-pick : (s : Session) (b : Bool) (y z : Planned) → Steady s y → Steady s z → Steady s (pick b y z)
+steady-pick s true y z h d = h
+steady-pick s false y z h d = d
+
+rest-steady : (s u : Session) (y : Gave) (n : ℕ) → Steady s (restPlan u y n)
+rest-steady s u y n = record { fill = refl; same = λ h. absurd h }
+
+send-steady : (s : Session) (mark m : ℕ) (u : Top) → Steady s (undoSend s mark m u)
+send-steady s mark zero u = rest-steady s (breaksOf s) (v.Failed x.Undo) (u .count)
+send-steady s mark (suc m) u =
+    steady-pick s (isReserved (u .op)) _ _ (rest-steady s s (v.Failed x.Opcode) (u .count)) (record { fill = refl; same = λ h. record { books = refl; silent = refl; info = refl } })
+
+undo-steady : (s : Session) (mark m : ℕ) (u : Top) → Steady s (undoPlan s mark m u)
+unfolding undoPlan
+undo-steady s mark m u =
+    steady-pick s (leb (u .count) mark) _ _ (rest-steady s s v.Nothing (u .count))
+    (steady-pick s (s .books .wire .broken) _ _ (rest-steady s s (v.Failed x.Undo) (u .count)) (send-steady s mark m u))
+
+-- what is so of the session after a command is so of the one before
+same-took : (s u z : Session) → u .books ≡ wired (s .books) (u .books .wire) → u .books .wire .silent ≡ s .books .wire .silent → u .info ≡ s .info → Same u z → Same s z
+same-took s u z p q r h = record {
+  books = h .books ∙ ap (λ (b : Books). wired b (z .books .wire)) p;
+  silent = h .silent ∙ q;
+  info = h .info ∙ r;
+}
+
+lend-steady : (s : Session) (y : Made) (n : ℕ) → Steady s (lendEnded s y n)
+lend-steady s (m.Ready y) n = record { fill = refl; same = λ h. absurd h }
+lend-steady s (m.Refused y) n = record { fill = refl; same = λ h. absurd h }
+
+client-steady : (st : Client) (s : Session) (y : End) (u : Top) → Steady s (clientPlan s st y u)
+unfolding clientPlan
+client-steady (k.Command o) s y u = record { fill = refl; same = λ h. absurd h }
+client-steady k.Lend s y u = lend-steady s (madeIn y) (u .count)
+client-steady (k.UndoTo mark i) s y u =
+    steady-pick s (isDone (cmdIn y .result)) _ _
+    (let h = undo-steady (tookOf s (cmdIn y)) mark i u in record { fill = h .fill; same = λ d. same-took s (tookOf s (cmdIn y)) _ refl refl refl (h .same d) })
+    (rest-steady s (breaksOf (tookOf s (cmdIn y))) (v.Failed x.Undo) (u .count))
+
+filled-same : (f : Fill) (s u : Session) (i : List ℕ) → f ≡ w.Nothing → (IsClient (u .stage) → Same s u) → IsClient (filled f u i .stage) → Same s (filled f u i)
+filled-same f s u i e h d = subst (λ (z : Fill). IsClient (filled z u i .stage) → Same s (filled z u i)) (sym e) h d
+
+-- A STEP of a client's call
+module _ (s : Session) (st : Client) (here : s .stage ≡ g.Client st) where
+  by-ending : (a : Answer) (u : Work) (i o : List ℕ) (top : Top) (n : Ending) → IsClient (stepTurn s a u i o top n .session .stage) → Same s (stepTurn s a u i o top n .session)
+  by-ending a u i o top e.Going d = record { books = refl; silent = refl; info = refl }
+  by-ending a u i o top (e.Ended y) d =
+      filled-same (planOf (withWork s u) y o top .fill) s (planOf (withWork s u) y o top .session) i (plan .fill) (λ h. from (plan .same h)) d
+    where
+      plan : Steady (withWork s u) (planOf (withWork s u) y o top)
+      plan = subst (λ (z : Stage). Steady (withWork s u) (planAt (withWork s u) y o top z)) (sym here) (client-steady st (withWork s u) y top)
+
+      from : {z : Session} → Same (withWork s u) z → Same s z
+      from h = record { books = h .books; silent = h .silent; info = h .info }
+
+  pub step-same : (a : Answer) (r i o : List ℕ) (top : Top) → IsClient (stepOf s a r i o top .session .stage) → Same s (stepOf s a r i o top .session)
+  unfolding stepOf
+  step-same a r i o top d = by-ending a (workStepOf (s .work) a r .work) i o top (workStepOf (s .work) a r .ending) d
+
+-- A CLIENT'S CALL BEGINS
+abbrev pub OfClient : Call → Type 0
+OfClient c.Open = ⊥
+OfClient (c.Command y) = Unit {0}
+OfClient (c.Lend bytes) = Unit {0}
+OfClient (c.UndoTo mark r) = Unit {0}
+OfClient c.Quiesce = ⊥
+OfClient c.Close = ⊥
+
+pub begun-same : (y : Call) (s : Session) (input i : List ℕ) (u : Top) → OfClient y → IsClient (begunTurn s y input i u .session .stage) → Same s (begunTurn s y input i u .session)
+unfolding begunTurn commandPlan lendPlan
+begun-same c.Open s input i u o d = absurd o
+begun-same (c.Command z) s input i u o d = by-output (givesOutput (z .form))
+  where
+    by-output : (b : Bool) → Same s (filled (pick b w.Outbox w.Nothing) (sendsOf s (g.Client (k.Command (z .form))) (postOf (s .books .held) z)) (readyIn (c.Command z) input i))
+    by-output true = record { books = refl; silent = refl; info = refl }
+    by-output false = record { books = refl; silent = refl; info = refl }
+begun-same (c.Lend bytes) s input i u o d = by-pages (pagesFor bytes) d
+  where
+    begun : Outcome ℕ → Planned
+    begun y = byOutcome y (λ n. planned (starts s (g.Client k.Lend) (t.Make (record { bytes = n * 4096; phase = mp.Allocate }))) w.Nothing (u .count)) (restPlan s (v.Failed x.Address) (u .count))
+
+    by-pages : (y : Outcome ℕ) → IsClient (begunOf (begun y) (readyIn (c.Lend bytes) input i) .session .stage) → Same s (begunOf (begun y) (readyIn (c.Lend bytes) input i) .session)
+    by-pages (value n) d = record { books = refl; silent = refl; info = refl }
+    by-pages (refused j vs) d = absurd d
+begun-same (c.UndoTo mark r) s input i u o d =
+    let h = undo-steady s mark UNDOS u in filled-same (undoPlan s mark UNDOS u .fill) s (undoPlan s mark UNDOS u .session) (readyIn (c.UndoTo mark r) input i) (h .fill) (h .same) d
+begun-same c.Quiesce s input i u o d = absurd o
+begun-same c.Close s input i u o d = absurd o
