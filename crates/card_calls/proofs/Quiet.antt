@@ -64,8 +64,8 @@ module _ (n : Info) (f : Failure) (P : World → Rest → Type 1) (l : Host) (b 
       safe-sends (wired b y) p (onward n f next) (Lies b) (Mine b) P h w q fits k
       (λ v a j d o m.
       let known : Known (v .card) = out-within (postedAs (y .toggle) p (mailAt (w .host) (h .inbox))) (Lies b) (Mine b)
-          (lies-kept b (postedAs (y .toggle) p (mailAt (w .host) (h .inbox))) free)
-          (subst (λ (z : Host). Mine b (postedAs (y .toggle) p (mailAt z (h .inbox)))) (sym e) (own-mine b l x (y .toggle) p (h .inbox) free)) (a .result) (v .card) m in
+      (lies-kept b (postedAs (y .toggle) p (mailAt (w .host) (h .inbox))) free)
+      (subst (λ (z : Host). Mine b (postedAs (y .toggle) p (mailAt z (h .inbox)))) (sym e) (own-mine b l x (y .toggle) p (h .inbox) free)) (a .result) (v .card) m in
       course-pick (isDone (a .result)) _ _ v P (λ t. follows (after y a) j v s d (o ∙ e) known) (λ t. safe-ends (after y a) j v s d (o ∙ e) known))
 
   -- THE STEPS, from the last to the first

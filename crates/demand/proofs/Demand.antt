@@ -25,7 +25,6 @@ use Rattle.work.specs.declared.Task.the-variants as t
 use Rattle.dma.specs.Buffers.{pagesFor}
 use Rattle.dma.specs.declared.Buffer.{Buffer}
 use Rattle.hcr.specs.Words.{isReserved}
-use Rattle.fields.specs.Outcome.{Outcome, value, refused}
 use Rattle.session.specs.Session.{fresh, wired, broken}
 use Rattle.session.specs.declared.Wire.{Wire}
 use Rattle.session.specs.declared.Gave.{Gave}
@@ -48,7 +47,7 @@ use Rattle.closing.specs.Closing.{lendsFrom, emptied}
 use Rattle.fw.specs.Calls.{asksOf, isSession, isLent, answerable, inTime, refusedOf, answerOf, answerIn, stepTurn, stepOf, stepIn}
 use Rattle.calls.specs.Calls.{isFresh, isOpen, isTime, callable, hasRoom, lentFor, byOpcode, byPages, byList, barred, begunTurn, begunInbox, unless, admitted, admittedIn, callOf, callIn, courseFor}
 use Rattle.calls.specs.declared.Call.{Call as Made}
-use Rattle.calls.specs.declared.Call.the-variants as k
+use Rattle.calls.specs.declared.Call.the-variants as kn
 use Rattle.calls.proofs.Begins.{begunAt, begins}
 use Rattle.fw.specs.Follows.{courseOf, courseAt, isRunning, hereAfter, Follows}
 use Rattle.fw.specs.declared.Turn.{Turn}
@@ -211,6 +210,7 @@ live-step n b w v q r calm st x =
 -- what is lent when a lending has ended lies in the books
 given-lent : (base : ℕ → Option Hold) (n : Info) (b : Books) (w : World) (y : Buffer) → ((d : ℕ) → Meets (spotOf y) d → InBooks (lents b) d) → Idle base n b w
     → Idle base n b (lendsTo (some y) w)
+unfolding effect
 given-lent base n b w y lies x = record {
   owns = x .owns;
   boxes = x .boxes;
@@ -237,7 +237,6 @@ given-lent base n b w y lies x = record {
     held h l d (inr (inr (inr (inr z)))) = in-books-left (lents b) _ d (lies d z)
 
     later : (p : Command) (e : w .card .pending ≡ some p) (d : ℕ) → Holds (effect p more) d → InBooks (lendsFrom b 0) d
-    unfolding effect
     later p e d z = ⊎-elim (λ u. held (w .card .held) (x .bound .now) d u) (λ u. x .bound .then p e .0 d (inr (inr u))) (held-before (kind (p .opcode)) p more d z)
 
     uses : Uses b (w .card .held) → Uses b more
@@ -341,8 +340,8 @@ clash (g.Boot y) a b = b
 clash (g.Client y) a b = a
 clash (g.Close y) a b = b
 
-never : {s : Session} → Both ⊥ (Unit {0}) s → IsClient (s .stage) → {A : Type 0} → A
-never {s} b h = absurd (clash (s .stage) (not-client (s .stage) (s .closing) (s .work .task) (b .0)) h)
+never : (s : Session) → Both ⊥ (Unit {0}) s → IsClient (s .stage) → ⊥
+never s b h = clash (s .stage) (not-client (s .stage) (s .closing) (s .work .task) (b .0)) h
 
 unit-held : (y : Close) (z : Closing) → HeldClose y z (Unit {0})
 unit-held y z = held-all (g.Close y) z (Unit {0}) tt
@@ -406,18 +405,15 @@ lent-given s t y e = by (isLending s) e
 lent-post : (base : ℕ → Option Hold) (k : Host) (s : Session) (h : Here) (w : World) (y : Buffer) → s .stage ≡ g.Open (gv.Lent y) → SafeCourse w (courseOf s h) (Post base k) → SafeCourse (lendsTo (some y) w) (courseOf s h) (Post base k)
 lent-post base k s h w y e x = by (s .stage) e x
   where
-    by : (st : Stage) → st ≡ g.Open (gv.Lent y) → SafeCourse w (courseAt st s h) (Post base k) → SafeCourse (lendsTo (some y) w) (courseAt st s h) (Post base k)
-    by st e x =
-        subst (λ (z : Stage). SafeCourse w (courseAt z s h) (Post base k) → SafeCourse (lendsTo (some y) w) (courseAt z s h) (Post base k)) (sym e)
-        (λ p. posted (s .stage) e₀ p) x
-
-    e₀ : s .stage ≡ g.Open (gv.Lent y)
-    e₀ = e
-
     posted : (st : Stage) → st ≡ g.Open (gv.Lent y) → PostAt base k w (s .info) (s .books) (s .closing) st → PostAt base k (lendsTo (some y) w) (s .info) (s .books) (s .closing) st
     posted st d p =
         subst (λ (z : Stage). PostAt base k w (s .info) (s .books) (s .closing) z → PostAt base k (lendsTo (some y) w) (s .info) (s .books) (s .closing) z) (sym d)
         (λ q. (given-lent base (s .info) (s .books) w y (q .1) (q .0), q .1)) p
+
+    by : (st : Stage) → st ≡ g.Open (gv.Lent y) → SafeCourse w (courseAt st s h) (Post base k) → SafeCourse (lendsTo (some y) w) (courseAt st s h) (Post base k)
+    by st d x =
+        subst (λ (z : Stage). SafeCourse w (courseAt z s h) (Post base k) → SafeCourse (lendsTo (some y) w) (courseAt z s h) (Post base k)) (sym d)
+        (λ p. posted (s .stage) e p) x
 
 begun-taken : (s : Session) (d : Made) (y i : List ℕ) (u : Top) → begunTurn s d y i u .refusal ≡ f.Nothing
 unfolding begunTurn
@@ -639,19 +635,19 @@ module _ (k : Host) (log : k .log ≡ []) (in-none : k .inbox ≡ none) (out-non
 
     -- the whole course of each call is safe
     call-safe : (d : Made) (y : List ℕ) → isTime (x .session .stage) d ≡ true → barred (x .session) d ≡ f.Nothing → SizedMade d → SafeCourse v (courseFor d (x .session) y (here n o u)) (Post base k)
-    call-safe k.Open y t b s =
+    call-safe kn.Open y t b s =
         let host : v .host ≡ k = rests .1 ∙ at-stage x g.Fresh (fresh-stage (x .session .stage) t) refl i .host in
         safe-opening base (Post base k) k back kept opened early (here n o u) v q host (subst (Owns base []) (sym host) start-owns)
         (ap (λ (h : Host). h .inbox) host ∙ in-none) (ap (λ (h : Host). h .outbox) host ∙ out-none)
-    call-safe (k.Command z) y t b s =
+    call-safe (kn.Command z) y t b s =
         safe-commanding base (x .session .info) (x .session .failure) (x .session .closing) (Post base k) (idles (x .session .info) (x .session .failure) (x .session .closing)) z y (x .session .books) (here n o u) v
         (by-opcode (isReserved (z .op)) b) s q (idle-now t)
-    call-safe (k.Lend bytes) y t b s =
+    call-safe (kn.Lend bytes) y t b s =
         safe-lending base (x .session .info) (x .session .failure) (x .session .closing) (Post base k) (idles (x .session .info) (x .session .failure) (x .session .closing)) bytes (x .session .books) (here n o u) v
         (by-room (x .session .books .lists .lends) bytes b) q (idle-now t)
-    call-safe (k.UndoTo mark r₁) y t b s =
+    call-safe (kn.UndoTo mark r₁) y t b s =
         safe-undoing-to base (x .session .info) (x .session .failure) (x .session .closing) (Post base k) (idles (x .session .info) (x .session .failure) (x .session .closing)) mark (x .session .books) (here n o u) v q (idle-now t)
-    call-safe k.Quiesce y t b s =
+    call-safe kn.Quiesce y t b s =
         let w = idle-now t in
         safe-quiescing (x .session .info) (x .session .failure) (Post base k) (v .host) (x .session .books) (w .boxes) (w .entries)
         (λ z a p e m. (quieted z a p e m w, tt)) (here n o u) v q refl (w .bound)
@@ -666,7 +662,7 @@ module _ (k : Host) (log : k .log ≡ []) (in-none : k .inbox ≡ none) (out-non
           exact = λ t. absurd (false≢true (sym t ∙ p));
           broken = λ t. refl;
         }
-    call-safe k.Close y t b s =
+    call-safe kn.Close y t b s =
         let w = idle-now t in
         safe-stopping (x .session .info) f.Nothing (Post base k) base (v .host)
         (λ z d a e s r. back (x .session .info) f.Nothing z (emptied d) a e s r) (λ d a s r. kept (x .session .info) f.Nothing d a s)
@@ -682,47 +678,47 @@ module _ (k : Host) (log : k .log ≡ []) (in-none : k .inbox ≡ none) (out-non
 
     -- and a client's changes nothing of the map
     call-calm : (d : Made) (y : List ℕ) → OfClient d → barred (x .session) d ≡ f.Nothing → CalmCourse (courseFor d (x .session) y (here n o u))
-    call-calm k.Open y c₁ b = absurd c₁
-    call-calm (k.Command z) y c₁ b = commanding-calm (x .session .info) (x .session .failure) (x .session .closing) z y (x .session .books) (here n o u) (by-opcode (isReserved (z .op)) b)
-    call-calm (k.Lend bytes) y c₁ b = lending-calm (x .session .info) (x .session .failure) (x .session .closing) bytes (x .session .books) (here n o u)
-    call-calm (k.UndoTo mark r₁) y c₁ b = undoing-to-calm (x .session .info) (x .session .failure) (x .session .closing) mark (x .session .books) (here n o u)
-    call-calm k.Quiesce y c₁ b = absurd c₁
-    call-calm k.Close y c₁ b = absurd c₁
+    call-calm kn.Open y c₁ b = absurd c₁
+    call-calm (kn.Command z) y c₁ b = commanding-calm (x .session .info) (x .session .failure) (x .session .closing) z y (x .session .books) (here n o u) (by-opcode (isReserved (z .op)) b)
+    call-calm (kn.Lend bytes) y c₁ b = lending-calm (x .session .info) (x .session .failure) (x .session .closing) bytes (x .session .books) (here n o u)
+    call-calm (kn.UndoTo mark r₁) y c₁ b = undoing-to-calm (x .session .info) (x .session .failure) (x .session .closing) mark (x .session .books) (here n o u)
+    call-calm kn.Quiesce y c₁ b = absurd c₁
+    call-calm kn.Close y c₁ b = absurd c₁
 
   -- which calls are a client's: those that begin a client's stage
   of-client : (d : Made) (s : Session) (y i : List ℕ) (u : Top) → IsClient (begunTurn s d y i u .session .stage) → OfClient d
-  of-client k.Open s y i u h = never (begun-needs ⊥ (Unit {0}) k.Open s y i u tt tt) h
-  of-client (k.Command z) s y i u h = tt
-  of-client (k.Lend bytes) s y i u h = tt
-  of-client (k.UndoTo mark r₁) s y i u h = tt
-  of-client k.Quiesce s y i u h = never (begun-needs ⊥ (Unit {0}) k.Quiesce s y i u tt tt) h
-  of-client k.Close s y i u h = never (begun-needs ⊥ (Unit {0}) k.Close s y i u tt tt) h
+  of-client kn.Open s y i u h = absurd (never (begunTurn s kn.Open y i u .session) (begun-needs ⊥ (Unit {0}) kn.Open s y i u tt tt) h)
+  of-client (kn.Command z) s y i u h = tt
+  of-client (kn.Lend bytes) s y i u h = tt
+  of-client (kn.UndoTo mark r₁) s y i u h = tt
+  of-client kn.Quiesce s y i u h = absurd (never (begunTurn s kn.Quiesce y i u .session) (begun-needs ⊥ (Unit {0}) kn.Quiesce s y i u tt tt) h)
+  of-client kn.Close s y i u h = absurd (never (begunTurn s kn.Close y i u .session) (begun-needs ⊥ (Unit {0}) kn.Close s y i u tt tt) h)
 
   -- where it is the time for a call of a client, the session is open
   client-time : (d : Made) (st : Stage) → OfClient d → isTime st d ≡ true → isOpen st ≡ true
-  client-time k.Open st c₁ e = absurd c₁
-  client-time (k.Command z) st c₁ e = e
-  client-time (k.Lend bytes) st c₁ e = e
-  client-time (k.UndoTo mark r₁) st c₁ e = e
-  client-time k.Quiesce st c₁ e = absurd c₁
-  client-time k.Close st c₁ e = absurd c₁
+  client-time kn.Open st c₁ e = absurd c₁
+  client-time (kn.Command z) st c₁ e = e
+  client-time (kn.Lend bytes) st c₁ e = e
+  client-time (kn.UndoTo mark r₁) st c₁ e = e
+  client-time kn.Quiesce st c₁ e = absurd c₁
+  client-time kn.Close st c₁ e = absurd c₁
 
   -- a call begins in a fresh or in an open session: nothing is lent, and the closing begins now
   not-lending : (d : Made) (st : Stage) → isTime st d ≡ true → isLending st ≡ false
-  not-lending k.Open st e = ap isLending (fresh-stage st e)
-  not-lending (k.Command z) st e = open-lends st e
-  not-lending (k.Lend bytes) st e = open-lends st e
-  not-lending (k.UndoTo mark r₁) st e = open-lends st e
-  not-lending k.Quiesce st e = open-lends st e
-  not-lending k.Close st e = open-lends st e
+  not-lending kn.Open st e = ap isLending (fresh-stage st e)
+  not-lending (kn.Command z) st e = open-lends st e
+  not-lending (kn.Lend bytes) st e = open-lends st e
+  not-lending (kn.UndoTo mark r₁) st e = open-lends st e
+  not-lending kn.Quiesce st e = open-lends st e
+  not-lending kn.Close st e = open-lends st e
 
   not-closing : (d : Made) (st : Stage) → isTime st d ≡ true → isClosing st ≡ false
-  not-closing k.Open st e = ap isClosing (fresh-stage st e)
-  not-closing (k.Command z) st e = open-closes st e
-  not-closing (k.Lend bytes) st e = open-closes st e
-  not-closing (k.UndoTo mark r₁) st e = open-closes st e
-  not-closing k.Quiesce st e = open-closes st e
-  not-closing k.Close st e = open-closes st e
+  not-closing kn.Open st e = ap isClosing (fresh-stage st e)
+  not-closing (kn.Command z) st e = open-closes st e
+  not-closing (kn.Lend bytes) st e = open-closes st e
+  not-closing (kn.UndoTo mark r₁) st e = open-closes st e
+  not-closing kn.Quiesce st e = open-closes st e
+  not-closing kn.Close st e = open-closes st e
 
   -- AN ACCEPTED CALL
   module _ (x y : Stand) (d : Made) (input n o : List ℕ) (u : Top) (i : Inv base k x) where
@@ -843,11 +839,11 @@ module _ (k : Host) (log : k .log ≡ []) (in-none : k .inbox ≡ none) (out-non
 
     -- from a stage of an opening or a closing no client's stage follows
     never-next : (st : Stage) → x .session .stage ≡ st → NotClient st → Known st (x .session .closing) (Unit {0}) → IsClient (next .stage) → ⊥
-    never-next st s no q h =
+    never-next st s other q h =
         clash (next .stage)
         (not-client (next .stage) (next .closing) (next .work .task)
         (step-both ⊥ (Unit {0}) (x .session) a res n o u
-        (fit-other (Unit {0}) ⊥ (x .session .stage) (x .session .closing) (x .session .work .task) (subst NotClient (sym s) no) (i .suited))
+        (fit-other (Unit {0}) ⊥ (x .session .stage) (x .session .closing) (x .session .work .task) (subst NotClient (sym s) other) (i .suited))
         (subst (λ (z : Stage). Known z (x .session .closing) (Unit {0})) (sym s) q) .0)) h
 
     known-unit : (p : Ask) → asked (asksOf (x .session)) n ≡ some p → (st : Stage) → x .session .stage ≡ st → Known st (x .session .closing) (Unit {0})
@@ -943,6 +939,7 @@ module _ (k : Host) (log : k .log ≡ []) (in-none : k .inbox ≡ none) (out-non
         -- while a client's call goes on nothing is lent
         unlent : IsClient (next .stage) → y .world ≡ st .between
         unlent q = lends ∙ ap (λ (h : Option Buffer). lendsTo h (st .between)) (client-lends (isLending (x .session .stage)) (next .stage) q)
+
   -- ANY EVENT
   step : (x : Stand) (a : Call) (n o : List ℕ) (u : Top) (y : Stand) → Inv base k x → Step x (event a n o u) y → Inv base k y
   step x (callMake d input) n o u y i st = by-time (callable (x .session) d) refl (lentFor d input n o u) refl (barred (x .session) d) refl
@@ -951,7 +948,7 @@ module _ (k : Host) (log : k .log ≡ []) (in-none : k .inbox ≡ none) (out-non
       by-time true p true q f.Nothing e = made-by x y d input n o u i p q e st
       by-time true p true q (f.By w) e =
           let z : callOf (x .session) d input n o u ≡ refusedOf (x .session) w (u .count) =
-              in-good (callable (x .session) d) (lentFor d input n o u) _ _ _ p q ∙ ap (λ (h : Failure). unless h (begunTurn (x .session) d input n u) (λ w. refusedOf (x .session) w (u .count))) e in
+          in-good (callable (x .session) d) (lentFor d input n o u) _ _ _ p q ∙ ap (λ (h : Failure). unless h (begunTurn (x .session) d input n u) (λ w. refusedOf (x .session) w (u .count))) e in
           refused x (event (callMake d input) n o u) y w (ap (λ (h : Turn). h .session) z) (ap (λ (h : Turn). h .refusal) z) i st
       by-time true p false q b e =
           let z = in-short (callable (x .session) d) (lentFor d input n o u) (admitted (x .session) d input n u) (refusedOf (x .session) r.Short (u .count)) (refusedOf (x .session) r.Wrong (u .count)) p q in
