@@ -49,6 +49,7 @@ use Rattle.session.specs.declared.Books.{Books}
 use Rattle.session.specs.declared.Info.{Info}
 use Rattle.session.specs.declared.Area.{Area}
 use Rattle.session.specs.declared.Area.the-variants as a
+use Rattle.session.specs.declared.Gave.the-variants as gv
 use Rattle.session.specs.declared.Stage.the-variants as g
 use Rattle.session.specs.declared.Failure.the-variants as f
 use Rattle.session.specs.declared.Closing.the-variants as c
@@ -109,7 +110,7 @@ empty-length = length-replicate {A = ℕ} 4096 0
 
 -- the end that is meant
 pub record IsOpen (w : World) (x : Rest) : Type 1 where
-  pub stage : x .stage ≡ g.Open
+  pub stage : x .stage ≡ g.Open gv.Nothing
 
 -- TASKS IN A COURSE
 abbrev IsAsk : {A : Type 0} → Script A → Type 0

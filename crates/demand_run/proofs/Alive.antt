@@ -70,7 +70,7 @@ use Rattle.work.specs.declared.End.{End}
 use Rattle.work.specs.declared.Ending.{Ending}
 use Rattle.work.specs.declared.Ending.the-variants as e
 use Rattle.session.specs.Failures.{madeIn, needsReset}
-use Rattle.session.specs.Session.{session, starts, wired, broken, tookOf, bookkeeps, informs}
+use Rattle.session.specs.Session.{session, starts, wired, listing, broken, tookOf, silencedOf, bookkeeps, informs}
 use Rattle.session.specs.declared.Hold.{Hold}
 use Rattle.session.specs.declared.Hold.the-variants as o
 use Rattle.session.specs.declared.Top.{Top}
@@ -84,15 +84,22 @@ use Rattle.session.specs.declared.Prepare.{Prepare}
 use Rattle.session.specs.declared.Prepare.the-variants as p
 use Rattle.session.specs.declared.Boot.{Boot}
 use Rattle.session.specs.declared.Boot.the-variants as b
+use Rattle.session.specs.declared.Client.{Client}
+use Rattle.session.specs.declared.Client.the-variants as kc
 use Rattle.session.specs.declared.Close.{Close}
 use Rattle.session.specs.declared.Close.the-variants as k
 use Rattle.session.specs.declared.Failure.{Failure}
 use Rattle.session.specs.declared.Closing.{Closing}
 use Rattle.session.specs.declared.Closing.the-variants as c
+use Rattle.session.specs.declared.Fill.the-variants as w
 use Rattle.session.specs.declared.Session.{Session}
 use Rattle.session.specs.declared.Planned.{Planned}
 use Rattle.closing.specs.Closing.{isDone, isHeld, UNDOS}
-use Rattle.closing.specs.Plan.{cmdIn, resetIn, onHold, givenPlan, outboxPlan, inboxPlan, faPlan, auxPlan, icmPlan, lentPlan, stoppedPlan, unmapFaPlan, unmapAuxPlan, unmapPlan, closeHcaPlan, undoSend, undoPlan, stopPlan, closesOf, closePlanAt, closePlan}
+use Rattle.closing.specs.Plan.{cmdIn, resetIn, onHold, givenPlan, outboxPlan, inboxPlan, faPlan, auxPlan, icmPlan, lentPlan, failedPlan, stoppedPlan, unmapFaPlan, unmapAuxPlan, unmapPlan, closeHcaPlan, undoSend, undoPlan, stopPlan, quiescePlan, closesOf, closePlanAt, closePlan}
+use Rattle.client.specs.Client.{givesOutput}
+use Rattle.client.specs.Plan as cl
+use Rattle.client.specs.Plan.{commandPlan, lendPlan, lendEnded, clientPlanAt, clientPlan}
+use Rattle.client.specs.declared.Request.{Request}
 use Rattle.opening.specs.Values.{enters, withCatas, withRevision, withCap, withPort, nowStarted}
 use Rattle.opening.specs.Opening.{portsOf}
 use Rattle.opening.specs.Plan as n
@@ -101,6 +108,10 @@ use Rattle.session.specs.declared.Lists.{Lists}
 use Rattle.work.specs.Work.{isResting}
 use Rattle.fw.specs.Follows.{isRunning}
 use Rattle.fw.specs.Calls.{isSession, withWork, filled, stepTurn, stepOf}
+use Rattle.calls.specs.Calls.{withoutFailure, readyIn, planFor, begunTurn}
+use Rattle.calls.specs.declared.Call.{Call}
+use Rattle.calls.specs.declared.Call.the-variants as kn
+use Rattle.calls.proofs.Begins.{length-ready}
 use Rattle.card.proofs.Bools.{and-left, and-right, and-true}
 
 -- the lists are within their arrays
@@ -110,10 +121,11 @@ Sized s = isSession s ≡ true
 -- where a call runs a task is under way
 abbrev pub Busy : Stage → Task → Type 0
 Busy g.Fresh x = Unit {0}
-Busy g.Open x = Unit {0}
+Busy (g.Open y) x = Unit {0}
 Busy g.Ended x = Unit {0}
 Busy (g.Prepare y) x = isResting x ≡ false
 Busy (g.Boot y) x = isResting x ≡ false
+Busy (g.Client y) x = isResting x ≡ false
 Busy (g.Close y) x = isResting x ≡ false
 
 abbrev pub Alive : Session → Type 0
@@ -218,9 +230,14 @@ module _ (i : List ℕ) (len : length i ≡ 4096) where
     unfolding lentPlan
     lent-freed j = begun-pick (ltb j (s .books .lists .lends)) _ _ (ok, refl) (icm-freed 0)
 
+  not-done : (s : Session) → Sized s → (n : ℕ) → Begun (failedPlan s n)
+  unfolding failedPlan
+  not-done s ok n = begun-pick (s .books .wire .silent) _ _ (ok, refl) (ok, refl)
+
   stopped : (s : Session) → Sized s → (n : ℕ) → Begun (stoppedPlan s n)
   unfolding stoppedPlan
-  stopped s ok n = begun-pick (s .books .wire .running) _ _ (ok, refl) (lent-freed (closesOf s c.Clean (s .books)) ok n 0)
+  stopped s ok n =
+      begun-pick (s .books .wire .silent) _ _ (ok, refl) (begun-pick (s .books .wire .running) _ _ (ok, refl) (lent-freed (closesOf s c.Clean (s .books)) ok n 0))
 
   fa-sent : (s : Session) → Sized s → (n : ℕ) → Begun (unmapFaPlan s n)
   unfolding unmapFaPlan
@@ -240,8 +257,8 @@ module _ (i : List ℕ) (len : length i ≡ 4096) where
   hca-sent s ok n = begun-pick (s .books .started) _ _ (ok, refl) (unmap-sent s ok (s .books .lists .ranges) n)
 
   undo-sent : (s : Session) → Sized s → (j : ℕ) (y : Top) → Begun (undoSend s j y)
-  undo-sent s ok zero y = (ok, refl)
-  undo-sent s ok (suc j) y = begun-pick (isReserved (y .op)) _ _ (ok, refl) (ok, refl)
+  undo-sent s ok zero y = not-done s ok (y .count)
+  undo-sent s ok (suc j) y = begun-pick (isReserved (y .op)) _ _ (not-done s ok (y .count)) (ok, refl)
 
   undo-next : (s : Session) → Sized s → (j : ℕ) (y : Top) → Begun (undoPlan s j y)
   unfolding undoPlan
@@ -251,12 +268,17 @@ module _ (i : List ℕ) (len : length i ≡ 4096) where
   unfolding stopPlan
   stop-begun s ok y = begun-pick (s .books .wire .broken) _ _ (ok, refl) (undo-next s ok UNDOS y)
 
+  quiesce-begun : (s : Session) → Sized s → (y : Top) → Begun (quiescePlan s y)
+  unfolding quiescePlan
+  quiesce-begun s ok y = begun-pick (s .books .wire .broken) _ _ (ok, refl) (undo-next (silencedOf s) ok UNDOS y)
+
   close-begun : (s : Session) → Sized s → (y : End) (top : Top) (st : Close) → Begun (closePlanAt s y top st)
-  close-begun s ok y top (k.Undo j) = begun-pick (isDone (cmdIn y .result)) _ _ (undo-next (tookOf s (cmdIn y)) ok j top) (ok, refl)
-  close-begun s ok y top k.CloseHca = begun-pick (isDone (cmdIn y .result)) _ _ (unmap-sent (tookOf s (cmdIn y)) ok (s .books .lists .ranges) (top .count)) (ok, refl)
-  close-begun s ok y top (k.Unmap j) = begun-pick (isDone (cmdIn y .result)) _ _ (unmap-sent (tookOf s (cmdIn y)) ok j (top .count)) (ok, refl)
-  close-begun s ok y top k.UnmapAux = begun-pick (isDone (cmdIn y .result)) _ _ (fa-sent (tookOf s (cmdIn y)) ok (top .count)) (ok, refl)
-  close-begun s ok y top k.UnmapFa = begun-pick (isDone (cmdIn y .result)) _ _ (stopped (tookOf s (cmdIn y)) ok (top .count)) (ok, refl)
+  close-begun s ok y top (k.Undo j) = begun-pick (isDone (cmdIn y .result)) _ _ (undo-next (tookOf s (cmdIn y)) ok j top) (not-done (tookOf s (cmdIn y)) ok (top .count))
+  close-begun s ok y top k.CloseHca = begun-pick (isDone (cmdIn y .result)) _ _ (unmap-sent (tookOf s (cmdIn y)) ok (s .books .lists .ranges) (top .count)) (not-done (tookOf s (cmdIn y)) ok (top .count))
+  close-begun s ok y top (k.Unmap j) = begun-pick (isDone (cmdIn y .result)) _ _ (unmap-sent (tookOf s (cmdIn y)) ok j (top .count)) (not-done (tookOf s (cmdIn y)) ok (top .count))
+  close-begun s ok y top k.UnmapAux = begun-pick (isDone (cmdIn y .result)) _ _ (fa-sent (tookOf s (cmdIn y)) ok (top .count)) (not-done (tookOf s (cmdIn y)) ok (top .count))
+  close-begun s ok y top k.UnmapFa = begun-pick (isDone (cmdIn y .result)) _ _ (stopped (tookOf s (cmdIn y)) ok (top .count)) (not-done (tookOf s (cmdIn y)) ok (top .count))
+  close-begun s ok y top k.Quiesce = (ok, tt)
   close-begun s ok y top k.Reset = begun-pick (isGood (resetIn y)) _ _ (lent-freed (closesOf s c.Reset (s .books)) ok (top .count) 0) (ok, refl)
   close-begun s ok y top (k.FreeLent j) = lent-freed s ok (top .count) j
   close-begun s ok y top (k.FreeIcm j) = icm-freed s ok (top .count) j
@@ -267,6 +289,52 @@ module _ (i : List ℕ) (len : length i ≡ 4096) where
   close-begun s ok y top k.Release = (ok, refl)
   close-begun s ok y top k.Restore = (ok, tt)
 
+  -- A CLIENT'S CALL
+  outcome : (v : Outcome ℕ) (y : ℕ → Planned) (z : Planned) → ((j : ℕ) → Begun (y j)) → Begun z → Begun (byOutcome v y z)
+  outcome (value j) y z h d = h j
+  outcome (refused j vs) y z h d = d
+
+  broken-sized : (s : Session) → Sized s → (b : Bool) → Sized (bookkeeps s (pick b (wired (s .books) (broken (s .books .wire))) (s .books)))
+  broken-sized s ok true = ok
+  broken-sized s ok false = ok
+
+  out-filled : (b : Bool) (s : Session) → Alive s → Alive (filled (pick b w.Outbox w.Nothing) s i)
+  out-filled true s h = h
+  out-filled false s h = h
+
+  command-begun : (s : Session) → Sized s → (y : Request) (n : ℕ) → Begun (commandPlan s y n)
+  unfolding commandPlan
+  command-begun s ok y n = out-filled (givesOutput (y .form)) _ (ok, refl)
+
+  lend-begun : (s : Session) → Sized s → (bytes n : ℕ) → Begun (lendPlan s bytes n)
+  unfolding lendPlan
+  lend-begun s ok bytes n = outcome (pagesFor bytes) _ _ (λ j. (ok, refl)) (ok, tt)
+
+  -- one lent buffer more, while there is room
+  lent-sized : (s : Session) → Sized s → (l : Lists) → l .ranges ≡ s .books .lists .ranges → l .lends ≡ s .books .lists .lends + 1
+      → (b : Bool) → ltb (s .books .lists .lends) 64 ≡ b → Sized (bookkeeps s (pick b (listing (s .books) l) (s .books)))
+  lent-sized s ok l e f true q =
+      and-true (leb (l .ranges) 14) (leb (l .lends) 64) (ap (λ (m : ℕ). leb m 14) e ∙ and-left (leb (s .books .lists .ranges) 14) _ ok)
+      (le-leb (l .lends) 64 (let z = ltb-true (s .books .lists .lends) 64 q in omega (arith, z, f)))
+  lent-sized s ok l e f false q = ok
+
+  lend-ended : (s : Session) → Sized s → (y : Made) (n : ℕ) → Begun (lendEnded s y n)
+  lend-ended s ok (m.Ready y) n = (lent-sized s ok _ refl refl (ltb (s .books .lists .lends) 64) refl, tt)
+  lend-ended s ok (m.Refused y) n = (ok, tt)
+
+  client-undo : (s : Session) → Sized s → (mark j : ℕ) (y : Top) → Begun (cl.undoSend s mark j y)
+  client-undo s ok mark zero y = (ok, tt)
+  client-undo s ok mark (suc j) y = begun-pick (isReserved (y .op)) _ _ (ok, tt) (ok, refl)
+
+  undo-begun : (s : Session) → Sized s → (mark j : ℕ) (y : Top) → Begun (cl.undoPlan s mark j y)
+  unfolding cl.undoPlan
+  undo-begun s ok mark j y = begun-pick (leb (y .count) mark) _ _ (ok, tt) (begun-pick (s .books .wire .broken) _ _ (ok, tt) (client-undo s ok mark j y))
+
+  client-begun : (s : Session) → Sized s → (y : End) (top : Top) (st : Client) → Begun (clientPlanAt s y top st)
+  client-begun s ok y top (kc.Command x) = (broken-sized (tookOf s (cmdIn y)) ok (needsReset (cmdIn y .result)), tt)
+  client-begun s ok y top kc.Lend = lend-ended s ok (madeIn y) (top .count)
+  client-begun s ok y top (kc.UndoTo mark j) = begun-pick (isDone (cmdIn y .result)) _ _ (undo-begun (tookOf s (cmdIn y)) ok mark j top) (ok, tt)
+
   -- OPENING
   failed : (s : Session) → Sized s → (y : Refusal) (top : Top) → Begun (failPlan s y top)
   unfolding failPlan
@@ -274,15 +342,7 @@ module _ (i : List ℕ) (len : length i ≡ 4096) where
 
   failed-by : (s : Session) → Sized s → (y : CmdResult) (top : Top) → Begun (failByPlan s y top)
   unfolding failByPlan
-  failed-by s ok y top = failed _ (broken-sized (needsReset y)) _ top
-    where
-      broken-sized : (b : Bool) → Sized (bookkeeps s (pick b (wired (s .books) (broken (s .books .wire))) (s .books)))
-      broken-sized true = ok
-      broken-sized false = ok
-
-  outcome : (v : Outcome ℕ) (y : ℕ → Planned) (z : Planned) → ((j : ℕ) → Begun (y j)) → Begun z → Begun (byOutcome v y z)
-  outcome (value j) y z h d = h j
-  outcome (refused j vs) y z h d = d
+  failed-by s ok y top = failed _ (broken-sized s ok (needsReset y)) _ top
 
   made : (s : Session) → Sized s → (x : Area) (bytes : ℕ) (top : Top) → Begun (makePlan s x bytes top)
   unfolding makePlan
@@ -371,11 +431,7 @@ module _ (i : List ℕ) (len : length i ≡ 4096) where
   boot-begun : (s : Session) → Sized s → (y : End) (out : List ℕ) (top : Top) (st : Boot) → Begun (bootPlanAt s y out top st)
   boot-begun s ok y out top b.QueryFw =
       begun-pick (isDone (cmdIn y .result)) _ _ (fw-replied (tookOf s (cmdIn y)) ok (queryFwOf out (s .info .uar .index)) _ top)
-      (failed _ (broken-sized (needsReset (cmdIn y .result))) _ top)
-    where
-      broken-sized : (x : Bool) → Sized (bookkeeps (tookOf s (cmdIn y)) (pick x (wired (tookOf s (cmdIn y) .books) (broken (tookOf s (cmdIn y) .books .wire))) (tookOf s (cmdIn y) .books)))
-      broken-sized true = ok
-      broken-sized false = ok
+      (failed _ (broken-sized (tookOf s (cmdIn y)) ok (needsReset (cmdIn y .result))) _ top)
   boot-begun s ok y out top (b.Make x) = area s ok x (madeIn y) top
   boot-begun s ok y out top (b.Map x z) = begun-pick (isDone (cmdIn y .result)) _ _ (map-next (tookOf s (cmdIn y)) ok x z top) (failed-by (tookOf s (cmdIn y)) ok (cmdIn y .result) top)
   boot-begun s ok y out top b.RunFw = begun-pick (isDone (cmdIn y .result)) _ _ (ok, refl) (failed-by (tookOf s (cmdIn y)) ok (cmdIn y .result) top)
@@ -438,6 +494,11 @@ module _ (i : List ℕ) (len : length i ≡ 4096) where
     by-boot st x e.Going ok h = (ok, h refl)
     by-boot st x (e.Ended y) ok h = boot-begun (withWork (was (g.Boot st)) x) ok y out top st
 
+    by-client : (st : Client) (x : Work) (n : Ending) → Sized (was (g.Client st)) → (n ≡ e.Going → isResting (x .task) ≡ false) → Alive (stepTurn (was (g.Client st)) r x i out top n .session)
+    unfolding clientPlan
+    by-client st x e.Going ok h = (ok, h refl)
+    by-client st x (e.Ended y) ok h = client-begun (withWork (was (g.Client st)) x) ok y top st
+
     by-close : (st : Close) (x : Work) (n : Ending) → Sized (was (g.Close st)) → (n ≡ e.Going → isResting (x .task) ≡ false) → Alive (stepTurn (was (g.Close st)) r x i out top n .session)
     unfolding closePlan
     by-close st x e.Going ok h = (ok, h refl)
@@ -446,11 +507,25 @@ module _ (i : List ℕ) (len : length i ≡ 4096) where
     by-stage : (st : Stage) → isRunning st ≡ true → Sized (was st) → isResting (v .task) ≡ false → Alive (stepOf (was st) r bytes i out top .session)
     unfolding stepOf
     by-stage g.Fresh q ok h = absurd (false≢true q)
-    by-stage g.Open q ok h = absurd (false≢true q)
+    by-stage (g.Open y) q ok h = absurd (false≢true q)
     by-stage g.Ended q ok h = absurd (false≢true q)
     by-stage (g.Prepare st) q ok h = by-prepare st (workStepOf v r bytes .work) (workStepOf v r bytes .ending) ok (going v r bytes h)
     by-stage (g.Boot st) q ok h = by-boot st (workStepOf v r bytes .work) (workStepOf v r bytes .ending) ok (going v r bytes h)
+    by-stage (g.Client st) q ok h = by-client st (workStepOf v r bytes .work) (workStepOf v r bytes .ending) ok (going v r bytes h)
     by-stage (g.Close st) q ok h = by-close st (workStepOf v r bytes .work) (workStepOf v r bytes .ending) ok (going v r bytes h)
 
   pub step-alive : (s : Session) (r : Answer) (bytes out : List ℕ) (top : Top) → isRunning (s .stage) ≡ true → Sized s → isResting (s .work .task) ≡ false → Alive (stepOf s r bytes i out top .session)
   step-alive s r bytes out top q ok h = by-stage (s .books) (s .info) (s .failure) (s .closing) (s .work) r bytes out top (s .stage) q ok h
+
+  -- A CALL BEGINS
+  call-begun : (s : Session) → Sized s → (y : Call) (top : Top) → Begun (planFor s y top)
+  call-begun s ok kn.Open top = (refl, refl)
+  call-begun s ok (kn.Command y) top = command-begun s ok y (top .count)
+  call-begun s ok (kn.Lend bytes) top = lend-begun s ok bytes (top .count)
+  call-begun s ok (kn.UndoTo mark y) top = undo-begun s ok mark UNDOS top
+  call-begun s ok kn.Quiesce top = quiesce-begun s ok top
+  call-begun s ok kn.Close top = stop-begun (withoutFailure s) ok top
+
+pub call-alive : (i : List ℕ) → length i ≡ 4096 → (s : Session) → Sized s → (y : Call) (input : List ℕ) (top : Top) → Alive (begunTurn s y input i top .session)
+unfolding begunTurn
+call-alive i len s ok y input top = call-begun (readyIn y input i) (length-ready y input i ∙ len) s ok y top

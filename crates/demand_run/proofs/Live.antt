@@ -2,7 +2,7 @@
 use Prim.Native.Nat.{ℕ}
 use mathlib.Core.Bool.{Bool, true, false, false≢true}
 use mathlib.Core.List.{List, [], _∷_}
-use mathlib.Core.Option.{Option, some}
+use mathlib.Core.Option.{Option, some, none}
 use mathlib.Core.Path.{_≡_, refl, sym, _∙_, ap, subst}
 use lib.Dec.{eqb}
 use borrow.Author.Tests.{eq-eqb}
@@ -19,23 +19,28 @@ use Rattle.work.specs.declared.Task.{Task}
 use Rattle.work.specs.declared.Ending.the-variants as e
 use Rattle.session.specs.Session.{fresh}
 use Rattle.session.specs.Course.{Course, ret, ask, Here, here, Lent, Left, left, Rest, restOf}
+use Rattle.session.specs.declared.Gave.the-variants as v
+use Rattle.session.specs.declared.Closing.{Closing}
 use Rattle.session.specs.declared.Stage.{Stage}
 use Rattle.session.specs.declared.Stage.the-variants as g
 use Rattle.session.specs.declared.Failure.{Failure}
 use Rattle.session.specs.declared.Failure.the-variants as f
 use Rattle.session.specs.declared.Session.{Session}
 use Rattle.opening.specs.Opening.{opening}
-use Rattle.opening.specs.Plan.{openPlan}
-use Rattle.fw.specs.Calls.{asksOf, isSession, isLent, openable, answerable, begins, refusedOf, openOf, answerOf, answerIn, stepOf, stepIn}
+use Rattle.fw.specs.Calls.{asksOf, isSession, isLent, answerable, refusedOf, answerOf, answerIn, stepOf, stepIn}
+use Rattle.calls.specs.Calls.{callable, lentFor, begunTurn, begunInbox, begunOutbox, admitted, admittedIn, callOf, callIn}
+use Rattle.calls.specs.declared.Call.the-variants as k
+use Rattle.calls.proofs.Begins.{begunAt, begins}
 use Rattle.fw.specs.Follows.{courseOf, courseAt, isRunning, hereAfter, Follows}
 use Rattle.fw.specs.declared.Turn.{Turn}
-use Rattle.fw.proofs.Session.{session-follows, opens}
+use Rattle.fw.proofs.Session.{session-follows}
 use Rattle.card.specs.Card.{same, Host, World, WorldStep, Allowed}
 use Rattle.card_calls.specs.SafeCourse.{SafeCourse}
 use Rattle.card_calls.proofs.Opening.{safe-opening}
 use Rattle.card_run.specs.Can.{Whole, CanCourse}
 use Rattle.card_run.proofs.Opening.{IsOpen, world₀, host₀, no-top, lends, lendable, empty, nil, empty-length, opening-runs}
-use Rattle.demand.specs.Events.{Call, callOpen, callAnswer, Event, asked, Stand, Happens, SameBox, boxLeft, isClosing, Step}
+use Rattle.demand.specs.Events.{Call, callMake, callAnswer, Event, asked, Stand, Happens, SameBox, boxLeft, isClosing, isLending, givenAt, lendsTo, Step}
+use Rattle.demand.proofs.Plans.{Fit, Suited, Known, held-all, step-both}
 use Rattle.demand.proofs.Questions.{asked-shown}
 use Rattle.demand.proofs.Demand.{in-good, step-taken}
 use Rattle.demand_run.specs.Run.{Opens, NotEmpty}
@@ -54,19 +59,40 @@ restIn z (ask q l k) = z
 
 ended : (st : Stage) (s : Session) (h : Here) → isRunning st ≡ false → (isRet (courseAt st s h) ≡ true) × (restIn (restOf s) (courseAt st s h) ≡ restOf s)
 ended g.Fresh s h q = (refl, refl)
-ended g.Open s h q = (refl, refl)
+ended (g.Open y) s h q = (refl, refl)
 ended g.Ended s h q = (refl, refl)
 ended (g.Prepare y) s h q = absurd (false≢true (sym q))
 ended (g.Boot y) s h q = absurd (false≢true (sym q))
+ended (g.Client y) s h q = absurd (false≢true (sym q))
 ended (g.Close y) s h q = absurd (false≢true (sym q))
 
 busy-of : (st : Stage) (x : Task) → isRunning st ≡ true → Busy st x → isResting x ≡ false
 busy-of g.Fresh x q b = absurd (false≢true q)
-busy-of g.Open x q b = absurd (false≢true q)
+busy-of (g.Open y) x q b = absurd (false≢true q)
 busy-of g.Ended x q b = absurd (false≢true q)
 busy-of (g.Prepare y) x q b = b
 busy-of (g.Boot y) x q b = b
+busy-of (g.Client y) x q b = b
 busy-of (g.Close y) x q b = b
+
+-- no client's call is under way in an opening, and so nothing is lent
+lends-not : (st : Stage) (z : Closing) (x : Task) → Fit ⊥ st z x → isLending st ≡ false
+lends-not g.Fresh z x h = refl
+lends-not (g.Open y) z x h = refl
+lends-not g.Ended z x h = refl
+lends-not (g.Prepare y) z x h = refl
+lends-not (g.Boot y) z x h = refl
+lends-not (g.Client y) z x h = absurd h
+lends-not (g.Close y) z x h = refl
+
+known-of : (st : Stage) (z : Closing) (x : Task) → isRunning st ≡ true → Fit ⊥ st z x → Known st z (Unit {0})
+known-of g.Fresh z x q h = absurd (false≢true q)
+known-of (g.Open y) z x q h = absurd (false≢true q)
+known-of g.Ended z x q h = absurd (false≢true q)
+known-of (g.Prepare y) z x q h = tt
+known-of (g.Boot y) z x q h = tt
+known-of (g.Client y) z x q h = absurd h
+known-of (g.Close y) z x q h = held-all (g.Close y) z (Unit {0}) tt
 
 abbrev stand : Session → List ℕ → World → Host → Stand
 stand s i w b = record { session = s; inbox = i; world = w; began = b }
@@ -79,16 +105,19 @@ lent-good i m l x =
     and-true (eqb (length i) 4096) _ (eq-eqb (length i) 4096 l) (and-true (eqb (length (m .outbox)) 4096) _ (eq-eqb (length (m .outbox)) 4096 (x .outbox)) (x .undo))
 
 -- AN ANSWER TO THE OPEN QUESTION
-answers : (s : Session) (h : Here) (w : World) (b : Host) (q : Ask) (r : Reply q) (m : Lent) (y : World) (a : Answer) (res : List ℕ) → length (h .inbox) ≡ 4096 → Sized s → asksOf s ≡ shown q
+answers : (s : Session) (h : Here) (w : World) (b : Host) (q : Ask) (r : Reply q) (m : Lent) (y : World) (a : Answer) (res : List ℕ) → length (h .inbox) ≡ 4096 → Sized s → isLending (s .stage) ≡ false → asksOf s ≡ shown q
     → Allowed (h .inbox) w q → Whole m → replyOf q a res ≡ some r → WorldStep w q r y
     → Step (stand s (h .inbox) w b) (event (callAnswer a res) (h .inbox) m)
     (stand (stepOf s a res (h .inbox) (m .outbox) (m .undo) .session) (stepIn s a res (h .inbox) (m .outbox) (m .undo)) y (pick (isClosing (s .stage)) b (y .host)))
-answers s h w b q r m y a res l ok e al x d st = record {
+answers s h w b q r m y a res l ok no-lend e al x d st = record {
   session = sym (ap (λ (t : Turn). t .session) turned);
   lendable = x .lendable;
   lent = subst (λ (t : Failure). SameBox t (h .inbox) (h .inbox)) (sym taken) refl;
   left = sym (ap (λ (t : Failure). boxLeft t (answerIn s a res (h .inbox) (m .outbox) (m .undo)) (h .inbox)) taken ∙ boxed);
-  world = subst (λ (t : Failure). Happens t (callAnswer a res) s (h .inbox) w y) (sym taken) (q, r, ap (λ z. asked z (h .inbox)) e ∙ asked-shown q (h .inbox) w al, d, st);
+  sized = tt;
+  between = y;
+  world = sym (ap (λ (t : Bool). lendsTo (pick t (givenAt (stepOf s a res (h .inbox) (m .outbox) (m .undo) .session .stage)) none) y) no-lend);
+  happens = subst (λ (t : Failure). Happens t (callAnswer a res) s (h .inbox) w y) (sym taken) (q, r, ap (λ z. asked z (h .inbox)) e ∙ asked-shown q (h .inbox) w al, d, st);
   began = refl;
 }
   where
@@ -108,29 +137,30 @@ answers s h w b q r m y a res l ok e al x d st = record {
     taken = ap (λ (t : Turn). t .refusal) turned ∙ step-taken s a res (h .inbox) (m .outbox) (m .undo)
 
 -- ALONG THE COURSE: it is safe, and it can come to an open session
-live : (c : Course Rest) (P : World → Rest → Type 1) (s : Session) (h : Here) (w : World) (b : Host) → courseOf s h ≡ c → Alive s → length (h .inbox) ≡ 4096 → SafeCourse w c P → CanCourse w c IsOpen
+live : (c : Course Rest) (P : World → Rest → Type 1) (s : Session) (h : Here) (w : World) (b : Host) → courseOf s h ≡ c → Alive s → Suited ⊥ s → length (h .inbox) ≡ 4096 → SafeCourse w c P → CanCourse w c IsOpen
     → Opens (stand s (h .inbox) w b)
-live (ret l r) P s h w b e al len safe can = record { events = []; end = stand s (h .inbox) w b; run = refl; stage = by-run (isRunning (s .stage)) refl }
+live (ret l r) P s h w b e al su len safe can = record { events = []; end = stand s (h .inbox) w b; run = refl; stage = by-run (isRunning (s .stage)) refl }
   where
-    by-run : (t : Bool) → isRunning (s .stage) ≡ t → s .stage ≡ g.Open
+    by-run : (t : Bool) → isRunning (s .stage) ≡ t → s .stage ≡ g.Open v.Nothing
     by-run true q =
         let fol = subst (Follows s h) e (session-follows s h len q (busy-of (s .stage) (s .work .task) q (al .1))) in
         sym (ap (λ (z : Rest). z .stage) (fol .2)) ∙ can .stage
     by-run false q = ap (λ (z : Rest). z .stage) (sym (ended (s .stage) s h q .1) ∙ ap (restIn (restOf s)) e) ∙ can .stage
-live (ask q l k) P s h w b e al len safe (r, m, y, ok, (a, res, d), st, can) =
+live (ask q l k) P s h w b e al su len safe (r, m, y, ok, (a, res, d), st, can) =
     let run : isRunning (s .stage) ≡ true = running (isRunning (s .stage)) refl in
     let busy = busy-of (s .stage) (s .work .task) run (al .1) in
     let fol = subst (Follows s h) e (session-follows s h len run busy) in
     let allowed : Allowed (h .inbox) w q = subst (λ (z : Left). Allowed (z .inbox) w q) (fol .1) (safe .0) in
     let next = live (k r m) P (stepOf s a res (h .inbox) (m .outbox) (m .undo) .session) (hereAfter s a res h m) y (pick (isClosing (s .stage)) b (y .host))
     (subst (λ (z : Option (Reply q)). Right z (λ r. courseOf (stepOf s a res (h .inbox) (m .outbox) (m .undo) .session) (hereAfter s a res h m) ≡ k r m) (Unit {0})) d (fol .2 a res m))
-    (step-alive (h .inbox) len s a res (m .outbox) (m .undo) run (al .0) busy) (step-length s a res (h .inbox) (m .outbox) (m .undo) len) (safe .1 r m y (ok .lendable) st) can in
+    (step-alive (h .inbox) len s a res (m .outbox) (m .undo) run (al .0) busy)
+    (step-both ⊥ (Unit {0}) s a res (h .inbox) (m .outbox) (m .undo) su (known-of (s .stage) (s .closing) (s .work .task) run su) .0) (step-length s a res (h .inbox) (m .outbox) (m .undo) len) (safe .1 r m y (ok .lendable) st) can in
     record {
       events = event (callAnswer a res) (h .inbox) m ∷ next .events;
       end = next .end;
       run = (
         stand (stepOf s a res (h .inbox) (m .outbox) (m .undo) .session) (stepIn s a res (h .inbox) (m .outbox) (m .undo)) y (pick (isClosing (s .stage)) b (y .host)),
-        answers s h w b q r m y a res len (al .0) (fol .0) allowed ok d st,
+        answers s h w b q r m y a res len (al .0) (lends-not (s .stage) (s .closing) (s .work .task) su) (fol .0) allowed ok d st,
         next .run,
       );
       stage = next .stage;
@@ -146,22 +176,34 @@ first = lendable empty nil empty-length
 
 record Any (w : World) (x : Rest) : Type 1 where
 
-opened : Step (stand fresh empty world₀ host₀) (event callOpen empty (lends empty)) (stand (openPlan fresh no-top .session) empty world₀ host₀)
+-- what the opening begins with
+abbrev begun : Session
+begun = begunTurn fresh k.Open [] empty no-top .session
+
+opened : Step (stand fresh empty world₀ host₀) (event (callMake k.Open []) empty (lends empty)) (stand begun (begunInbox fresh k.Open [] empty no-top) world₀ host₀)
+unfolding begunTurn begunInbox
 opened = record {
   session = sym (ap (λ (t : Turn). t .session) turned);
   lendable = first .lendable;
+  sized = tt;
   lent = subst (λ (t : Failure). SameBox t empty empty) (sym taken) refl;
-  left = sym (ap (λ (t : Failure). boxLeft t empty empty) taken);
-  world = subst (λ (t : Failure). Happens t callOpen fresh empty world₀ world₀) (sym taken) (same, refl);
+  left = sym (ap (λ (t : Failure). boxLeft t (callIn fresh k.Open [] empty empty no-top) empty) taken ∙ boxed);
+  between = world₀;
+  happens = subst (λ (t : Failure). Happens t (callMake k.Open []) fresh empty world₀ world₀) (sym taken) (same, refl);
+  world = refl;
   began = refl;
 }
   where
-    turned : openOf fresh empty empty no-top ≡ begins (openPlan fresh no-top)
-    turned =
-        in-good (openable fresh) (isLent empty empty no-top) (begins (openPlan fresh no-top)) (refusedOf fresh x.Short (no-top .count)) (refusedOf fresh x.Wrong (no-top .count)) refl
-        (lent-good empty (lends empty) empty-length first)
+    room : lentFor k.Open [] empty empty no-top ≡ true
+    room = and-true (isLent empty empty no-top) true (lent-good empty (lends empty) empty-length first) refl
 
-    taken : openOf fresh empty empty no-top .refusal ≡ f.Nothing
+    turned : callOf fresh k.Open [] empty empty no-top ≡ begunTurn fresh k.Open [] empty no-top
+    turned = in-good (callable fresh k.Open) (lentFor k.Open [] empty empty no-top) (admitted fresh k.Open [] empty no-top) (refusedOf fresh x.Short (no-top .count)) (refusedOf fresh x.Wrong (no-top .count)) refl room
+
+    boxed : callIn fresh k.Open [] empty empty no-top ≡ begunInbox fresh k.Open [] empty no-top
+    boxed = in-good (callable fresh k.Open) (lentFor k.Open [] empty empty no-top) (admittedIn fresh k.Open [] empty no-top) empty empty refl room
+
+    taken : callOf fresh k.Open [] empty empty no-top .refusal ≡ f.Nothing
     taken = ap (λ (t : Turn). t .refusal) turned
 
 safe : SafeCourse world₀ (opening (here empty empty no-top)) Any
@@ -170,16 +212,17 @@ safe =
     (record { inbox = empty-length; outbox = nil; undo = first .lendable .undo }) refl (record { own = tt; new = tt; apart = tt; others = λ h e. refl }) refl refl
 
 pub not-empty : NotEmpty
+unfolding begunTurn begunInbox begunOutbox
 not-empty =
     let next =
-    live (opening (here empty empty no-top)) Any (openPlan fresh no-top .session) (here empty empty no-top) world₀ host₀ (opens (here empty empty no-top)) (refl, refl) empty-length safe
+    live (opening (here empty empty no-top)) Any begun (begunAt k.Open fresh [] (here empty empty no-top)) world₀ host₀ (begins k.Open fresh [] (here empty empty no-top) empty-length) (refl, refl) tt empty-length safe
     (opening-runs (here empty empty no-top)) in (
       stand fresh empty world₀ host₀,
       record { session = refl; log = refl; inbox = refl; outbox = refl },
       record {
-        events = event callOpen empty (lends empty) ∷ next .events;
+        events = event (callMake k.Open []) empty (lends empty) ∷ next .events;
         end = next .end;
-        run = (stand (openPlan fresh no-top .session) empty world₀ host₀, opened, next .run);
+        run = (stand begun (begunInbox fresh k.Open [] empty no-top) world₀ host₀, opened, next .run);
         stage = next .stage;
       },
     )

@@ -1,6 +1,7 @@
 -- Demand 3 is not empty: from a start, some events lead to an open session.
 use mathlib.Core.List.{List, [], _∷_}
 use mathlib.Core.Path.{_≡_}
+use Rattle.session.specs.declared.Gave.the-variants as v
 use Rattle.session.specs.declared.Stage.the-variants as g
 use Rattle.demand.specs.Events.{Event, Stand, Step}
 use Rattle.demand.specs.Demand.{Start}
@@ -14,7 +15,7 @@ pub record Opens (x : Stand) : Type 1 where
   pub events : List Event
   pub end : Stand
   pub run : Run events x end
-  pub stage : end .session .stage ≡ g.Open
+  pub stage : end .session .stage ≡ g.Open v.Nothing
 
 abbrev pub NotEmpty : Type 1
 NotEmpty = (x : Stand) × Start x × Opens x
