@@ -5,8 +5,8 @@ use std::fmt::Write;
 use compare::sessions::sample::{cases, sample};
 use compare::sessions::stored::checksum;
 use session::abi::Words;
-use session::ffi::{self, Reader};
-use session::{Answer, Mapping, Question, Session, Undo, UndoList};
+use session::ffi::{self, Called, Reader};
+use session::{Answer, Mapping, Question, Session, Undo};
 
 /// The bytes of a record that were not read yet.
 struct Bytes<'a>(&'a [u8]);
@@ -72,7 +72,7 @@ struct Replay<'a> {
     inbox: Vec<u8>,
     outbox: Vec<u8>,
     out: [u8; 40],
-    undo: UndoList,
+    undo: Vec<Undo>,
     answers: Bytes<'a>,
     /// The answer before the next one, where the two may be given in turn.
     last: Answer<'a>,
@@ -82,8 +82,7 @@ struct Replay<'a> {
 impl<'a> Replay<'a> {
     fn call(&mut self, call: impl FnOnce(ffi::Lent) -> u32) -> Question {
         let Replay { state, inbox, outbox, out, undo, .. } = self;
-        let top = undo.records().last().copied().unwrap_or_default();
-        let lent = ffi::Lent { state, inbox, outbox, count: undo.len(), top, out };
+        let lent = ffi::Lent { state, inbox, outbox, undo, count: undo.len(), out };
         assert_eq!(call(lent), 0, "the call is taken");
         self.undo.truncate(Words(&self.out).at(4) as usize);
         Question::of(&Words(&self.out)).expect("a question")
@@ -160,7 +159,7 @@ impl<'a> Replay<'a> {
 
     /// Whether the opening was good.
     fn opening(&mut self) -> bool {
-        let first = self.call(ffi::open);
+        let first = self.call(|l| ffi::call(l, Called::OPEN));
         self.run(first);
         let r = self.read(Reader::Result, 5);
         let good = r[0] == 2;
@@ -174,7 +173,7 @@ impl<'a> Replay<'a> {
     }
 
     fn close(&mut self) {
-        let first = self.call(ffi::close);
+        let first = self.call(|l| ffi::call(l, Called::CLOSE));
         self.run(first);
         let r = self.read(Reader::Result, 5);
         self.row("closed", &r[4..]);
@@ -184,21 +183,21 @@ impl<'a> Replay<'a> {
 /// One record; what it prints.
 fn replayed(input: &mut Bytes) -> String {
     let [calls, words, _, bytes] = [(); 4].map(|()| input.number(2) as usize);
-    let mut undo = UndoList::new();
+    let mut undo = Vec::new();
     let records: Vec<u64> = (0..words).map(|_| input.number(8)).collect();
     let mut replay = Replay {
         state: Session::new().state().to_vec(),
         inbox: vec![0xa5; 4096],
         outbox: vec![0xa5; 4096],
         out: [0; 40],
-        undo: UndoList::new(),
+        undo: Vec::new(),
         answers: Bytes(input.take(bytes)),
         last: Answer::Done,
         text: String::new(),
     };
     for w in records.chunks(2) {
         let record = Undo { op: (w[0] >> 48) as u16, op_mod: (w[0] >> 32) as u8, in_mod: w[0] as u32, in_param: w[1] };
-        assert!(undo.push(record));
+        undo.push(record);
     }
     if replay.opening() && calls == 2 {
         replay.undo = undo;

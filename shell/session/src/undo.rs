@@ -65,6 +65,11 @@ impl<'a> UndoList<'a> {
         &self.records[..self.count]
     }
 
+    /// The same, to be changed; what is written here is not looked at before its turn.
+    pub fn records_mut(&mut self) -> &mut [Undo] {
+        &mut self.records[..self.count]
+    }
+
     /// All that is lent, with what stands behind the last record.
     pub(crate) fn room(&self) -> &[Undo] {
         self.records

@@ -3,7 +3,8 @@
 use std::fs;
 use std::io::{self, Write};
 
-use session::{Closing, Outcome, Question, Refused, Session, UndoList};
+use session::abi::UNDO_RECORDS;
+use session::{Call, Closing, Outcome, Question, Refused, Session, Undo, UndoList};
 use world::plan::Fault;
 use world::traced::Traced;
 use world::World;
@@ -21,13 +22,11 @@ use crate::words;
 /// The room for a resource list.
 const LIST: usize = 64;
 
-type Begin = fn(&mut Session, &mut UndoList) -> Result<Question, Refused>;
-
-struct Station<W> {
+struct Station<'a, W> {
     out: W,
     bus: Traced<World>,
     session: Box<Session>,
-    undo: Box<UndoList>,
+    undo: UndoList<'a>,
     calls: Calls,
     follow: Follow,
     progress: Progress,
@@ -35,15 +34,15 @@ struct Station<W> {
     sent: Vec<u16>,
 }
 
-impl<W: Write> Station<W> {
-    fn new(options: &Options, out: W) -> Station<W> {
+impl<'a, W: Write> Station<'a, W> {
+    fn new(options: &Options, records: &'a mut [Undo], out: W) -> Station<'a, W> {
         let plan = card::plan(options);
         let planned = plan.faults.iter().map(|f| f.call).collect();
         Station {
             out,
             bus: Traced::new(World::new(plan)),
             session: Box::default(),
-            undo: Box::default(),
+            undo: UndoList::new(records),
             calls: Calls::new(options.trace, planned),
             follow: Follow::default(),
             progress: Progress::new(),
@@ -82,9 +81,9 @@ impl<W: Write> Station<W> {
     }
 
     /// One call from its beginning to its result.
-    fn call(&mut self, name: &str, begin: Begin) -> io::Result<Result<Outcome, Refused>> {
+    fn call(&mut self, name: &str, call: Call) -> io::Result<Result<Outcome, Refused>> {
         report::head(&mut self.out, name)?;
-        let first = begin(&mut self.session, &mut self.undo);
+        let first = self.session.begin(call, &mut self.undo);
         let outcome = self.drive(first)?;
         report::result(&mut self.out, outcome)?;
         Ok(outcome)
@@ -122,14 +121,15 @@ impl<W: Write> Station<W> {
 
 /// Opens and closes; true if both went well.
 pub fn run(options: &Options, out: impl Write) -> io::Result<bool> {
-    let mut station = Station::new(options, out);
+    let mut records = [Undo::default(); UNDO_RECORDS];
+    let mut station = Station::new(options, &mut records, out);
     let card = options.seed.map_or("that does as it is told".into(), |s| format!("of seed {s}"));
     writeln!(station.out, "a card {card}")?;
-    let opened = station.call("opening", Session::begin_open)? == Ok(Outcome::Open);
+    let opened = station.call("opening", Call::Open)? == Ok(Outcome::Open);
     let (mut svg, mut clean) = (None, false);
     if opened {
         svg = station.tell(options.picture.as_ref())?;
-        clean = station.call("closing", Session::begin_close)? == Ok(Outcome::Closed(Closing::Clean));
+        clean = station.call("closing", Call::Close)? == Ok(Outcome::Closed(Closing::Clean));
     }
     station.end(options)?;
     station.out.flush()?;

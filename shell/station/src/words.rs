@@ -55,7 +55,7 @@ pub fn status(status: u8) -> &'static str {
     }
 }
 
-/// Why an opening failed.
+/// Why an opening or a call failed.
 pub fn refusal(r: Refusal) -> String {
     match r {
         Refusal::Attributes => "the PCI attributes could not be read or enabled".into(),
@@ -78,6 +78,8 @@ pub fn refusal(r: Refusal) -> String {
         Refusal::Entry(i) => format!("the entry size of table {} is no power of two", table(i)),
         Refusal::Total(v) => format!("the tables need {v:#x} bytes, more than the card has"),
         Refusal::Address => "a device address is no page multiple, or a size passes 2^64".into(),
+        Refusal::Reserved => "an undo record has an opcode that no client may send".into(),
+        Refusal::Undo => "an undo command failed, or the session was broken and a record was wanted".into(),
     }
 }
 
