@@ -1,4 +1,5 @@
 //! A part of the random and damaged calls of every function of include/hca.h.
+#![cfg(not(hca_old))]
 
 use compare::arbitrary::{self, FUNCTIONS, NUMBERS};
 
@@ -23,7 +24,6 @@ fn a_seed_decides_the_calls() {
     assert_ne!(arbitrary::run(3, 500), arbitrary::run(4, 500));
 }
 
-#[cfg(not(hca_old))]
 mod null {
     use std::ptr::{null, null_mut};
 

@@ -17,6 +17,7 @@ use crate::over::Over;
 use crate::picture;
 use crate::progress::Progress;
 use crate::report;
+use crate::uses::Use;
 use crate::words;
 
 /// The room for a resource list.
@@ -82,11 +83,41 @@ impl<'a, W: Write> Station<'a, W> {
 
     /// One call from its beginning to its result.
     fn call(&mut self, name: &str, call: Call) -> io::Result<Result<Outcome, Refused>> {
-        report::head(&mut self.out, name)?;
+        report::head(&mut self.out, name, true)?;
         let first = self.session.begin(call, &mut self.undo);
         let outcome = self.drive(first)?;
         report::result(&mut self.out, outcome)?;
         Ok(outcome)
+    }
+
+    /// One call on the open session, or a record for the undo list; whether it was good.
+    fn used(&mut self, it: &Use) -> io::Result<bool> {
+        let outcome = match (it.call(), it) {
+            (Some(call), _) => {
+                let first = self.session.begin(call, &mut self.undo);
+                let asks = first.is_ok_and(|q| q != Question::Finished);
+                report::head(&mut self.out, &it.name(), asks && !matches!(it, Use::Lend(_)))?;
+                self.drive(first)?
+            }
+            (None, Use::Push(record)) => {
+                report::head(&mut self.out, &it.name(), false)?;
+                self.undo.push(*record).map(|()| Outcome::Open)
+            }
+            (None, _) => panic!("a use that is no call"),
+        };
+        report::used(&mut self.out, it, outcome, self.undo.len(), self.session.outbox())?;
+        Ok(outcome.is_ok_and(|o| !matches!(o, Outcome::CallFailed(_))))
+    }
+
+    /// Everything that is called on the open session, and the close; whether all went well.
+    fn use_and_close(&mut self, options: &Options) -> io::Result<bool> {
+        let mut good = true;
+        for it in &options.uses {
+            good &= self.used(it)?;
+        }
+        let closed = self.call("closing", Call::Close)?;
+        let quiesced = options.uses.contains(&Use::Quiesce);
+        Ok(good && closed == Ok(Outcome::Closed(if quiesced { Closing::Reset } else { Closing::Clean })))
     }
 
     /// The opened session: what it has found out, and its picture.
@@ -119,22 +150,22 @@ impl<'a, W: Write> Station<'a, W> {
     }
 }
 
-/// Opens and closes; true if both went well.
+/// Opens, uses and closes; true if all went well.
 pub fn run(options: &Options, out: impl Write) -> io::Result<bool> {
     let mut records = [Undo::default(); UNDO_RECORDS];
     let mut station = Station::new(options, &mut records, out);
     let card = options.seed.map_or("that does as it is told".into(), |s| format!("of seed {s}"));
     writeln!(station.out, "a card {card}")?;
     let opened = station.call("opening", Call::Open)? == Ok(Outcome::Open);
-    let (mut svg, mut clean) = (None, false);
+    let (mut svg, mut good) = (None, false);
     if opened {
         svg = station.tell(options.picture.as_ref())?;
-        clean = station.call("closing", Call::Close)? == Ok(Outcome::Closed(Closing::Clean));
+        good = station.use_and_close(options)?;
     }
     station.end(options)?;
     station.out.flush()?;
     draw(options.picture.as_ref(), svg)?;
-    Ok(opened && clean && station.bus.bus.misuse().is_empty())
+    Ok(good && station.bus.bus.misuse().is_empty())
 }
 
 /// Writes the picture of an open session to its file.

@@ -1,10 +1,10 @@
 //! What the numbers of the card and of a session mean.
 
-use session::{Closing, How, Refusal};
+use session::{Closing, How, Refusal, Refused};
 use world::registers::*;
 
-/// The commands of an opening and a close, by opcode.
-pub const COMMANDS: [(u16, &str); 16] = [
+/// The commands of an opening and a close, and those of clients, by opcode.
+pub const COMMANDS: [(u16, &str); 37] = [
     (QUERY_DEV_CAP, "QUERY_DEV_CAP"),
     (QUERY_FW, "QUERY_FW"),
     (QUERY_ADAPTER, "QUERY_ADAPTER"),
@@ -21,6 +21,27 @@ pub const COMMANDS: [(u16, &str); 16] = [
     (SET_ICM_SIZE, "SET_ICM_SIZE"),
     (UNMAP_FA, "UNMAP_FA"),
     (MAP_FA, "MAP_FA"),
+    (0x009, "INIT_PORT"),
+    (0x00a, "CLOSE_PORT"),
+    (0x00c, "SET_PORT"),
+    (0x00d, "SW2HW_MPT"),
+    (0x00f, "HW2SW_MPT"),
+    (0x012, "MAP_EQ"),
+    (0x013, "SW2HW_EQ"),
+    (0x014, "HW2SW_EQ"),
+    (0x016, "SW2HW_CQ"),
+    (0x017, "HW2SW_CQ"),
+    (0x019, "RST2INIT_QP"),
+    (0x01a, "INIT2RTR_QP"),
+    (0x01b, "RTR2RTS_QP"),
+    (0x021, "2RST_QP"),
+    (0x023, "CONF_SPECIAL_QP"),
+    (0x024, "MAD_IFC"),
+    (0x025, "READ_MCG"),
+    (0x026, "WRITE_MCG"),
+    (0x027, "MGID_HASH"),
+    (0x03b, "ACCESS_REG"),
+    (0x048, "SET_MCAST_FLTR"),
 ];
 
 /// A command's name, or its opcode where it has none here.
@@ -83,6 +104,18 @@ pub fn refusal(r: Refusal) -> String {
     }
 }
 
+/// Why a call was not taken: document 01's number, and what it means.
+pub fn refused(r: Refused) -> (u32, &'static str) {
+    match r {
+        Refused::Bytes => (18, "so many bytes end above 2^64"),
+        Refused::Full => (19, "no more buffers can be lent, or records be kept"),
+        Refused::Wrong => (20, "a call at the wrong time"),
+        Refused::Short => (21, "an input of more than 4096 bytes, or no room"),
+        Refused::Reserved => (22, "an opcode that bring-up or closing sends"),
+        Refused::Unknown => (0, "a number that no call gives"),
+    }
+}
+
 /// A table's name.
 pub fn table(index: u8) -> &'static str {
     world::results::NAMES.get(usize::from(index)).copied().unwrap_or("of no name")
@@ -112,6 +145,14 @@ pub fn pages(n: u64) -> String {
     match n {
         1 => "1 page".into(),
         n => format!("{n} pages"),
+    }
+}
+
+/// So many bytes.
+pub fn bytes(n: usize) -> String {
+    match n {
+        1 => "1 byte".into(),
+        n => format!("{n} bytes"),
     }
 }
 

@@ -165,7 +165,7 @@ fn check(made: &Made, stop: &Stop, number: u32, figures: &mut Figures) -> Result
     Ok(())
 }
 
-#[cfg(test)]
+#[cfg(all(test, not(hca_old)))]
 mod tests {
     use super::*;
 
