@@ -58,7 +58,7 @@ pub fn push(op: u16, in_mod: u32) -> Call {
 }
 
 /// The calls between an opening and a close.
-fn session(middle: &[Call]) -> Vec<Call> {
+pub fn session(middle: &[Call]) -> Vec<Call> {
     [&[Call::Open], middle, &[Call::Close]].concat()
 }
 

@@ -13,7 +13,7 @@ use world::traced::Traced;
 use world::{Holdings, World};
 
 use super::cases::Case;
-use super::glimpse::{Glimpse, Notes};
+use super::glimpse::Glimpse;
 use super::over::Over;
 use super::told;
 
@@ -48,8 +48,6 @@ pub struct Run {
     pub books: Option<session::Books>,
     /// No command was posted whose end was not seen.
     pub seen: bool,
-    /// What the mailboxes held, where the Rust ran and it was noted.
-    pub notes: Option<Notes>,
 }
 
 fn bus(case: &Case) -> Bus {
@@ -67,18 +65,7 @@ pub(crate) fn mailbox(bytes: Option<Vec<u8>>) -> Vec<u8> {
 
 /// The Rust's run; nothing outside the domain of document 01.
 pub fn rust(case: &Case) -> Option<Run> {
-    rust_over(bus(case), case)
-}
-
-/// The same, with what the mailboxes held.
-pub fn rust_noted(case: &Case) -> Option<Run> {
-    let mut noted = bus(case);
-    noted.bus.notes = Some(Notes::default());
-    rust_over(noted, case)
-}
-
-fn rust_over(bus: Bus, case: &Case) -> Option<Run> {
-    let shared = Rc::new(RefCell::new(bus));
+    let shared = Rc::new(RefCell::new(bus(case)));
     let mut driver = Driver::new(shared.clone());
     let opened = match run::open(&mut driver) {
         Ok(opened) => Ok(Box::new(opened)),
@@ -100,14 +87,7 @@ fn rust_over(bus: Bus, case: &Case) -> Option<Run> {
     }
     let (holdings, misuse) = (world(&bus).holdings(), world(&bus).misuse().to_vec());
     let ran = Ran { opening, opened, state, closing, closed: closed.flatten(), inbox, outbox, holdings, misuse };
-    Some(Run {
-        ran,
-        calls: [first, world(&bus).calls()],
-        reads: bus.bus.reads,
-        books: None,
-        seen: true,
-        notes: bus.bus.notes.take(),
-    })
+    Some(Run { ran, calls: [first, world(&bus).calls()], reads: bus.bus.reads, books: None, seen: true })
 }
 
 /// The session's run.
@@ -138,7 +118,7 @@ pub fn ours(case: &Case) -> Run {
     let (inbox, outbox) = (session.inbox().to_vec(), session.outbox().to_vec());
     let ran = Ran { opening, opened, state, closing, closed, inbox, outbox, holdings, misuse };
     let books = Some(session.books().expect("a session"));
-    Run { ran, calls: [first, world(&bus).calls()], reads: bus.bus.reads, books, seen: unseen == 0, notes: None }
+    Run { ran, calls: [first, world(&bus).calls()], reads: bus.bus.reads, books, seen: unseen == 0 }
 }
 
 /// Where the two differ.
