@@ -5,7 +5,7 @@ use world::plan::{Behaviour, OddMap};
 use world::registers::{BAR_DCS, GO_WRITE, OWNER};
 use world::trace::Event;
 
-use super::beside::{rust, rust_noted, Run};
+use super::beside::{rust, rust_noted, Run, Step};
 use super::cases::{chosen, command, endless, push, seeded, session, Case};
 use super::stored::record;
 use crate::machines::records::Record;
@@ -24,11 +24,13 @@ fn of_session(s: &sessions::cases::Case) -> Case {
     Case::new(s.name.clone(), s.plan.clone(), calls.collect())
 }
 
-/// The number, from the opening on, of call `n` of those that fit.
-fn at(case: &Case, n: usize, fits: impl Fn(&Event) -> bool) -> u64 {
+/// The number, from the opening on, of bus call `n` of those that fit, within call `call` of the list.
+fn at(case: &Case, call: usize, n: usize, fits: impl Fn(&Event) -> bool) -> u64 {
     let run = rust(case).expect("inside the domain").ran;
-    let calls = run.steps.iter().skip(1).flat_map(|s| s.trace.events().collect::<Vec<_>>()).filter(Event::is_call);
-    calls.zip(0..).filter(|(e, _)| fits(e)).nth(n).expect("such a call").1
+    let events = |s: &Step| s.trace.events().filter(Event::is_call).collect::<Vec<Event>>();
+    let before: usize = run.steps[1..call].iter().map(|s| events(s).len()).sum();
+    let within = events(&run.steps[call]).into_iter().zip(before as u64..).filter(|(e, _)| fits(e)).nth(n);
+    within.expect("such a bus call").1
 }
 
 fn written(at: u64) -> impl Fn(&Event) -> bool {
@@ -39,24 +41,22 @@ fn read(at: u64) -> impl Fn(&Event) -> bool {
     move |e| matches!(e, Event::RegisterRead { bar: BAR_DCS, offset, .. } if *offset == at)
 }
 
-/// Client commands in each of which another bus call fails: all of them are posted still. In the second list the command dword is
+/// Client commands in each of which another bus call fails; the next one is posted still. In the second list the command dword is
 /// reported failed but was taken, and every later command is Busy.
 fn bus_failures() -> Vec<Case> {
     let commands = (0..8).map(|n| command(if n % 2 == 0 { Form::InImm } else { Form::Imm }, 0x012 + n, &[1, n as u8]));
     let undo = [push(0x020, 1), Call::UndoTo { mark: 0 }];
     let case = Case::new("commands", obedient(), session(&commands.chain(undo).collect::<Vec<Call>>()));
-    let failing =
-        |case: &Case, n: usize, fits: &dyn Fn(&Event) -> bool, taken: bool| case.with_fault(at(case, n, fits), taken);
-    // From the last command to the first, since a failure leaves out the calls behind it: a poll, the status, the immediate.
-    let all = failing(&case, 7, &read(GO_WRITE - 8), false);
-    let all = failing(&all, 6, &read(GO_WRITE - 12), false);
-    let all = failing(&all, 3 * 5 + 2, &read(GO_WRITE), false);
-    let all = failing(&all, 3 * 4 + 1, &read(GO_WRITE), true);
-    let all = failing(&all, 3, &written(GO_WRITE), false);
-    let all = failing(&all, 2, &written(GO_WRITE - 4), false);
-    let all = failing(&all, 1, &written(GO_WRITE - 24), false);
-    let all = failing(&all, 0, &read(GO_WRITE), false);
-    vec![all, failing(&case, 1, &written(GO_WRITE), true)]
+    // The first read, a word, the command dword, a poll, the status, both dwords of the immediate.
+    let reads = [(1, 0, GO_WRITE), (5, 1, GO_WRITE), (6, 2, GO_WRITE), (7, 0, GO_WRITE - 12), (8, 0, GO_WRITE - 8)];
+    let writes = [(2, GO_WRITE - 24), (3, GO_WRITE - 4), (4, GO_WRITE)];
+    let posted = |case: Case, (call, offset): (usize, u64)| case.with_fault(at(&case, call, 0, written(offset)), false);
+    let ended = |case: Case, (call, n, offset): (usize, usize, u64)| {
+        case.with_fault(at(&case, call, n, read(offset)), call == 5)
+    };
+    let all = reads[1..].iter().copied().fold(writes.into_iter().fold(ended(case.clone(), reads[0]), posted), ended);
+    let taken = case.with_fault(at(&case, 2, 0, written(GO_WRITE)), true);
+    vec![all, taken]
 }
 
 /// Commands with a status and with waits.
@@ -80,15 +80,15 @@ fn lendings() -> Vec<Case> {
     let mut case = Case::new("failing", obedient(), session(&calls));
     case.later.null = vec![0];
     case.later.odd_maps = vec![(1, OddMap { address: None, bytes: Some(0) })];
-    let map = at(&case, 0, |e| matches!(e, Event::Map { .. }));
+    let map = at(&case, 2, 0, |e| matches!(e, Event::Map { .. }));
     vec![case.with_fault(map, false)]
 }
 
 /// Quiesces and closes that do not go by commands alone.
 fn ends() -> Vec<Case> {
     let quiesce = Case::new("quiesce", obedient(), session(&[Call::Lend { bytes: 1 }, push(0x020, 1), Call::Quiesce]));
-    let owner = at(&quiesce, 0, written(OWNER));
-    let config = at(&quiesce, 0, |e| matches!(e, Event::ConfigRead { bits: 16, offset: 4, .. }));
+    let owner = at(&quiesce, 3, 0, written(OWNER));
+    let config = at(&quiesce, 3, 0, |e| matches!(e, Event::ConfigRead { bits: 16, offset: 4, .. }));
     let lent = Case::new("lent", obedient(), session(&[Call::Lend { bytes: 1 }, push(0x020, 1)]));
     let kept = |mut case: Case| {
         case.plan.card.semaphore = vec![0, 20_000];
@@ -96,7 +96,8 @@ fn ends() -> Vec<Case> {
     };
     vec![
         kept(quiesce.with_fault(owner, false)),
-        quiesce.with_command(0, Behaviour::status(1)).with_fault(config, false),
+        quiesce.with_fault(config, false),
+        quiesce.with_command(0, Behaviour::status(1)),
         quiesce.with_command(1, Behaviour::status(1)),
         quiesce.with_command(17, Behaviour::status(1)),
         kept(lent.with_command(0, Behaviour::status(1))),
