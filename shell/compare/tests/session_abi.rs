@@ -13,20 +13,13 @@ use world::prng::Prng;
 use world::trace::{Event, Trace};
 use world::{World, PAGE};
 
+mod lent;
+
+use lent::{refused, short, Copies};
+
 const DAMAGES: u64 = if cfg!(debug_assertions) { 2_000 } else { 300_000 };
 /// So many turns lie between two at which everything is tried.
 const STRIDE: usize = if cfg!(debug_assertions) { 41 } else { 1 };
-
-/// What is lent to a call, in copies.
-#[derive(Clone, PartialEq, Eq, Debug)]
-struct Copies {
-    state: Vec<u8>,
-    inbox: Vec<u8>,
-    outbox: Vec<u8>,
-    undo: Vec<Undo>,
-    count: usize,
-    out: Vec<u8>,
-}
 
 fn open(l: Lent) -> u32 {
     ffi::call(l, Called::OPEN)
@@ -34,26 +27,6 @@ fn open(l: Lent) -> u32 {
 
 fn close(l: Lent) -> u32 {
     ffi::call(l, Called::CLOSE)
-}
-
-impl Copies {
-    fn of(s: &Session) -> Copies {
-        let (state, inbox, outbox) = (s.state().to_vec(), s.inbox().to_vec(), s.outbox().to_vec());
-        Copies { state, inbox, outbox, undo: vec![Undo::default(); UNDO_RECORDS], count: 0, out: vec![0x5a; abi::TURN] }
-    }
-
-    fn call(&mut self, call: impl FnOnce(Lent) -> u32) -> u32 {
-        let Copies { state, inbox, outbox, undo, count, out } = self;
-        call(Lent { state, inbox, outbox, undo, count: *count, out })
-    }
-}
-
-/// A call that must be refused with this number, and leave every byte.
-fn refused(copies: &Copies, number: u32, what: &str, call: impl FnOnce(Lent) -> u32) {
-    let mut after = copies.clone();
-    let given = after.call(call);
-    assert_eq!(given, number, "{what}");
-    assert!(after == *copies, "{what}: something was changed");
 }
 
 /// Every kind that does not suit, and values that are too wide for theirs.
@@ -64,35 +37,11 @@ fn wrong_answers(q: Question) -> Vec<Told<'static>> {
     all
 }
 
-/// What is lent, with one thing too short, too long or too many.
-fn short(copies: &Copies) -> Vec<(&'static str, Copies)> {
-    let with = |change: &dyn Fn(&mut Copies)| {
-        let mut c = copies.clone();
-        change(&mut c);
-        c
-    };
-    vec![
-        ("state", with(&|c| c.state.truncate(abi::STATE - 1))),
-        ("no state", with(&|c| c.state.clear())),
-        ("inbox", with(&|c| c.inbox.truncate(abi::MAILBOX - 1))),
-        ("no inbox", with(&|c| c.inbox.clear())),
-        ("long inbox", with(&|c| c.inbox.push(0))),
-        ("outbox", with(&|c| c.outbox.truncate(abi::MAILBOX - 1))),
-        ("no outbox", with(&|c| c.outbox.clear())),
-        ("long outbox", with(&|c| c.outbox.push(0))),
-        ("out", with(&|c| c.out.truncate(abi::TURN - 1))),
-        ("no out", with(&|c| c.out.clear())),
-        ("undo records", with(&|c| (c.count, c.undo) = (UNDO_RECORDS + 1, vec![Undo::default(); UNDO_RECORDS + 1]))),
-        ("short undo list", with(&|c| (c.count, c.undo) = (2, vec![Undo::default()]))),
-        ("no undo list", with(&|c| (c.count, c.undo) = (1, Vec::new()))),
-        ("very many undo records", with(&|c| c.count = usize::MAX)),
-    ]
-}
-
 /// Everything that is refused while a question is open.
 fn try_all(copies: &Copies, q: Question) {
-    refused(copies, abi::WRONG, "open", open);
-    refused(copies, abi::WRONG, "close", close);
+    for kind in 0..12 {
+        refused(copies, abi::WRONG, &format!("call {kind}"), |l| ffi::call(l, Called::of(kind, 0)));
+    }
     for t in wrong_answers(q) {
         refused(copies, abi::WRONG, &format!("{q:?} {t:?}"), |l| ffi::answer(l, t));
     }
