@@ -216,7 +216,7 @@ fn a_lent_buffer_at_a_bad_address() {
     for (address, pages, number) in ends {
         let (mut session, mut bus) = opened();
         let odd_maps = vec![(0, OddMap { address: Some(address), bytes: None })];
-        bus.bus.from_here(Later { odd_maps, ..Later::default() });
+        bus.bus.schedule(Later { odd_maps, ..Later::default() });
         let (mut undo, before) = (UndoList::new(&mut []), session.books());
         let outcome = session.lend(&mut Over::new(&mut bus), &mut undo, pages * PAGE).expect("an open session");
         if number == 0 {
@@ -355,7 +355,7 @@ fn results_of_calls() {
     let mut undo = UndoList::new(&mut []);
     let c = Command { op: FREE, op_mod: 0, in_mod: 7 };
     let commands = vec![(1, Behaviour { polls: 2, status: 9 })];
-    bus.bus.from_here(Later { commands, ..Later::default() });
+    bus.bus.schedule(Later { commands, ..Later::default() });
     let over = &mut Over::new(&mut bus);
     let good = session.imm(over, &mut undo, c, 1).expect("an open session");
     assert!(matches!(good, Outcome::Done { us: 0, .. }));

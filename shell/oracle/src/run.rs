@@ -238,7 +238,7 @@ pub fn list(world: &SharedWorld, d: &mut Driver, list: &List, mut each: impl FnM
             return;
         }
         if opening {
-            world.borrow_mut().bus.from_here(list.later.clone());
+            world.borrow_mut().bus.schedule(list.later.clone());
         }
     }
 }

@@ -282,7 +282,7 @@ impl Card {
     }
 
     /// How commands end, counted from here.
-    pub fn from_here(&mut self, commands: Vec<(u64, Behaviour)>) {
+    pub fn schedule(&mut self, commands: Vec<(u64, Behaviour)>) {
         let first = self.commands;
         let numbered = commands.into_iter().map(|(n, b)| (Which::Number(first + n), b));
         self.plan.commands.splice(0..0, numbered);

@@ -133,7 +133,7 @@ impl Host {
     }
 
     /// Allocations and maps that are answered otherwise, counted from here.
-    pub fn from_here(&mut self, null: Vec<u64>, odd_maps: Vec<(u64, OddMap)>) {
+    pub fn schedule(&mut self, null: Vec<u64>, odd_maps: Vec<(u64, OddMap)>) {
         let (allocations, maps) = (self.allocations, self.maps);
         self.plan.null.extend(null.into_iter().map(|n| allocations + n));
         self.plan.odd_maps.splice(0..0, odd_maps.into_iter().map(|(n, o)| (maps + n, o)));

@@ -101,13 +101,13 @@ impl World {
         self.card.replies()
     }
 
-    /// What is decided from here on, before all that the plan says.
-    pub fn from_here(&mut self, later: Later) {
+    /// What is to come from here on; it goes before all that the plan says.
+    pub fn schedule(&mut self, later: Later) {
         let Later { commands, faults, null, odd_maps } = later;
         let calls = self.calls;
         self.faults.splice(0..0, faults.into_iter().map(|f| Fault { call: calls + f.call, ..f }));
-        self.card.from_here(commands);
-        self.host.from_here(null, odd_maps);
+        self.card.schedule(commands);
+        self.host.schedule(null, odd_maps);
     }
 
     /// One bus call: it has its effect unless its fault says "not taken",

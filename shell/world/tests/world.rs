@@ -268,7 +268,7 @@ fn what_is_decided_later_is_counted_from_there() {
     let mut w = world(|p| p.card.commands = vec![(Which::Opcode(RUN_FW), Behaviour::status(1))]);
     buffer(&mut w, 1);
     post(&mut w, QUERY_FW, 0, 0, 0);
-    w.from_here(Later {
+    w.schedule(Later {
         commands: vec![(1, Behaviour::status(9))],
         faults: vec![Fault { call: 14, taken: false }],
         null: vec![1],

@@ -162,7 +162,7 @@ impl Led<'_> {
         }
         let open = self.session.result().expect("a session").is_open();
         if open && *call == Call::Open {
-            self.bus.from_here(later.clone());
+            self.bus.schedule(later.clone());
         }
         open
     }

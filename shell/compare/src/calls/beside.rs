@@ -66,8 +66,8 @@ fn world(bus: &Bus) -> &World {
 
 /// The opening was good: what is counted from there.
 fn opened(bus: &mut Bus, case: &Case) -> [u64; 2] {
-    bus.bus.from_here(case.go_at);
-    bus.bus.bus.from_here(case.later.clone());
+    bus.bus.schedule(case.go_at);
+    bus.bus.bus.schedule(case.later.clone());
     [world(bus).calls(), bus.bus.reads]
 }
 

@@ -34,7 +34,7 @@ impl<B: Bus> Glimpse<B> {
     }
 
     /// The read that shows GO, counted from here.
-    pub fn from_here(&mut self, at: Option<u64>) {
+    pub fn schedule(&mut self, at: Option<u64>) {
         self.at = at.map(|n| self.reads + n);
     }
 
