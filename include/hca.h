@@ -1,17 +1,20 @@
 /*
- * A ConnectX-3 card brought up, kept and let go, as a session of questions and answers that touches no bus.
+ * A ConnectX-3 card brought up, used and let go, as a session of questions and answers that touches no bus.
  *
  * The caller keeps the session as HCA_STATE bytes, made by hca_fresh and opaque to him, and lends them to every call together with two mailboxes of HCA_MAILBOX bytes,
- * `inbox` and `outbox`, and his undo list. A call writes the next question to `out`; the caller does what it says and hands in what came of it by hca_answer, until the
- * question is HCA_FINISHED. Then hca_result says what has become of the session.
+ * `inbox` and `outbox`, and his undo list. hca_call begins a call, and writes its first question to `out`; the caller does what it says and hands in what came of it by
+ * hca_answer, until the question is HCA_FINISHED. Then hca_result says what has become of the session, and what the call gave.
  *
- * Every function gives 0, or the number of a refusal, and takes any bytes, lengths and numbers: HCA_WRONG (a call at the wrong time, an answer of the wrong kind, bytes
- * that are no session) or HCA_SHORT (a slice is too short, a mailbox has not HCA_MAILBOX bytes, more than HCA_UNDO_RECORDS undo records); hca_fresh gives 0 or HCA_SHORT
- * alone. HCA_WRONG goes before HCA_SHORT, except that fewer bytes than HCA_STATE are HCA_SHORT unless the answer is of no kind or its value too wide. A call that is
- * refused changes nothing: no lent byte, no session, no open question. A pointer may be null only where its length is 0. No slice may overlap another. While a command is
+ * Every function gives 0, or the number of a refusal, and takes any bytes, lengths and numbers. A call that is refused changes nothing: no lent byte, no session, no open
+ * question. Where several refusals fit, it is the first of 20, 21, 22, 19, 18; except that fewer bytes than HCA_STATE are HCA_SHORT unless the kind of the call is unknown, or
+ * the answer is of no kind or its value too wide. Each function names the refusals that it has.
+ *
+ * What is lent stays the caller's: no function keeps a pointer. `state`, `inbox`, `outbox` and `out` are read and written; `input`, `resource` and, but for hca_push_undo, `undo`
+ * are only read. Between two calls `state` and both mailboxes are handed on as they were left, and of them only the outbox is written, by a fence (below). A pointer may be null
+ * only where its length is 0. No slice that is written may overlap another.
+ *
+ * All words are big-endian, of eight bytes. The first and the second good HCA_ALLOCATE of an opening are the pages that stand behind `inbox` and `outbox`. While a command is
  * polled, hca_answer looks at the first 80 bytes of the session alone; damage behind them is found by the next answer that is not to a poll.
- *
- * All words are big-endian, of eight bytes. The first and the second good HCA_ALLOCATE of an opening are the pages that stand behind `inbox` and `outbox`.
  */
 #ifndef HCA_H
 #define HCA_H
@@ -26,9 +29,44 @@ extern "C" {
 #define HCA_STATE 3336
 #define HCA_MAILBOX 4096
 #define HCA_UNDO_RECORDS 256
+#define HCA_LENT_BUFFERS 64
 
-#define HCA_WRONG 20
-#define HCA_SHORT 21
+/* The refusals. */
+#define HCA_BYTES 18    /* more than 2^64 - 4,096 bytes are to be lent */
+#define HCA_FULL 19     /* HCA_LENT_BUFFERS are lent, or HCA_UNDO_RECORDS stand on the list */
+#define HCA_WRONG 20    /* a call at the wrong time or of no kind, an answer of the wrong kind, bytes that are no session */
+#define HCA_SHORT 21    /* a slice is too short, a mailbox has not HCA_MAILBOX bytes, an input has more; `count` is above `undo_records` or above HCA_UNDO_RECORDS */
+#define HCA_RESERVED 22 /* an opcode that bring-up or closing sends, queries excepted, or that is above 0xfff */
+
+/*
+ * A command that takes an object back: the caller's own record. The undo list is an array of these, oldest first, in `undo`, with room for `undo_records`, of which the first
+ * `count` are on the list. HCA_UNDO_TO, HCA_QUIESCE and every closing send the newest first, and each is off the list before it is sent: the last word that a call writes says
+ * how many are left, and the caller lends no more than these to the next call. He may change the list between two calls; the newest record is taken as it stands then.
+ */
+typedef struct hca_undo {
+    uint16_t op;
+    uint8_t op_mod;
+    uint32_t in_mod;
+    uint64_t in_param;
+} hca_undo;
+
+/*
+ * The kinds of calls, with what each looks at besides the session, and the result (hca_result) that it ends with. HCA_OPEN is taken by a fresh session, the others by an open
+ * one at which no call is running; a session is opened once.
+ *
+ * A command zeroes its mailboxes before its first question, and puts `input` at the first byte of the inbox; so they stand whatever it comes to. After 7, 8 or 9 the session is
+ * broken, and its closing resets the card. A broken session, and one that was quiesced, still takes every call.
+ */
+#define HCA_OPEN 0     /* brings the card up: 2 or 3. Records on the undo list are sent by the closing of a failed opening */
+#define HCA_IMM 1      /* op, op_mod, in_mod; `value` is the in parameter: a command with an immediate in and out. HCA_RESERVED. 5, or 7 with 6 to 9 */
+#define HCA_WITH_IN 2  /* op, op_mod, in_mod, `input`: a command with an inbox. The same */
+#define HCA_WITH_OUT 3 /* op, op_mod, in_mod: a command with an outbox, which has the reply. The same */
+#define HCA_IN_IMM 4   /* op, op_mod, in_mod, `input`: a command with an inbox and an immediate out. The same */
+#define HCA_IN_OUT 5   /* op, op_mod, in_mod, `input`: a command with both mailboxes. The same */
+#define HCA_LEND 6     /* `value` bytes, of which none are one page: pages that the card may use until the session is closed. HCA_FULL, HCA_BYTES. 6, or 7 with 5 or 18 */
+#define HCA_UNDO_TO 7  /* `value` is a mark: sends undo records while more than so many are on the list. HCA_RESERVED where any of these is. 2, or 7 with 22 or 23 */
+#define HCA_QUIESCE 8  /* stops the firmware by the commands of a closing, frees nothing, and turns bus mastering off, whatever fails. The session is broken then. 2 */
+#define HCA_CLOSE 9    /* takes back what is on the undo list, and gives up the card and all that the session holds: 4 */
 
 /*
  * The kinds of questions, with their values. What came of each is told by the answer named behind it, or by HCA_FAILED; a stall and a fence cannot fail.
@@ -62,35 +100,48 @@ extern "C" {
 /* What a call writes to `out`: the kind of the question, its three values, and how many undo records are left on the caller's list. */
 #define HCA_TURN 40
 
-/* Makes a session that was never opened. */
+/* Makes a session that was never opened. HCA_SHORT alone. */
 uint32_t hca_fresh(uint8_t *state, size_t state_bytes);
 
 /*
- * Opens, or closes. `count` says how many records the undo list has, and the four numbers behind it are the newest one's (any if there is none).
+ * Begins a call. A kind looks at the arguments that are named beside it, and at no others: `input` and its length are HCA_WITH_IN's, HCA_IN_IMM's and HCA_IN_OUT's. A call with
+ * nothing to ask, as HCA_UNDO_TO with no record wanted, has HCA_FINISHED as its first question. HCA_WRONG, HCA_SHORT, and what stands beside its kind.
  */
-uint32_t hca_open(uint8_t *state, size_t state_bytes, uint8_t *inbox, size_t inbox_bytes, uint8_t *outbox, size_t outbox_bytes, size_t count, uint16_t op,
-                  uint8_t op_mod, uint32_t in_mod, uint64_t in_param, uint8_t *out, size_t out_bytes);
-uint32_t hca_close(uint8_t *state, size_t state_bytes, uint8_t *inbox, size_t inbox_bytes, uint8_t *outbox, size_t outbox_bytes, size_t count, uint16_t op,
-                   uint8_t op_mod, uint32_t in_mod, uint64_t in_param, uint8_t *out, size_t out_bytes);
+uint32_t hca_call(uint8_t *state, size_t state_bytes, uint32_t kind, uint16_t op, uint8_t op_mod, uint32_t in_mod, uint64_t value, const uint8_t *input, size_t input_bytes,
+                  uint8_t *inbox, size_t inbox_bytes, uint8_t *outbox, size_t outbox_bytes, const hca_undo *undo, size_t undo_records, size_t count, uint8_t *out,
+                  size_t out_bytes);
 
-/* Answers the open question: a kind, two values, and the bytes of a resource list (any otherwise). */
+/* Answers the open question: a kind, two values, and the bytes of a resource list (any otherwise). HCA_WRONG and HCA_SHORT. */
 uint32_t hca_answer(uint8_t *state, size_t state_bytes, uint32_t kind, uint64_t a, uint64_t b, const uint8_t *resource, size_t resource_bytes, uint8_t *inbox,
-                    size_t inbox_bytes, uint8_t *outbox, size_t outbox_bytes, size_t count, uint16_t op, uint8_t op_mod, uint32_t in_mod, uint64_t in_param,
-                    uint8_t *out, size_t out_bytes);
+                    size_t inbox_bytes, uint8_t *outbox, size_t outbox_bytes, const hca_undo *undo, size_t undo_records, size_t count, uint8_t *out, size_t out_bytes);
 
-/* The open question: four words. */
+/*
+ * Puts a record on the undo list, at place `count`; the caller's count is then one more. HCA_SHORT where `count` is above `undo_records` or above HCA_UNDO_RECORDS; else
+ * HCA_RESERVED; else HCA_FULL where `count` is HCA_UNDO_RECORDS; else HCA_SHORT where it is `undo_records`. Nothing is written but the record, and nothing where it is refused.
+ */
+uint32_t hca_push_undo(hca_undo *undo, size_t undo_records, size_t count, uint16_t op, uint8_t op_mod, uint32_t in_mod, uint64_t in_param);
+
+/* The open question: four words. This and the three below only read the session, at any time: HCA_WRONG where the bytes are none, HCA_SHORT. */
 #define HCA_QUESTION 32
 uint32_t hca_question(const uint8_t *state, size_t state_bytes, uint8_t *out, size_t out_bytes);
 
 /*
- * What has become of the session, five words: 0 not opened yet, 1 a call is running, 2 open, 3 the opening failed, 4 closed; at 3 the number of the refusal and its two
- * values; at 3 and 4 how the closing went: 0 clean, 1 by a reset, 2 everything is kept and must never be given back.
+ * What has become of the session, and what its last call gave, five words: the first says which, and what is not named is 0.
+ *   0  not opened yet
+ *   1  a call is running
+ *   2  open; the last call gave nothing (HCA_OPEN, HCA_UNDO_TO, HCA_QUIESCE)
+ *   3  the opening failed: the number of document 01's refusal, its two values, how the closing went
+ *   4  closed: three words of 0, how the closing went
+ *   5  open; the last call was a command: its immediate (0 where the form has none), the microseconds waited
+ *   6  open; the last call lent a buffer: its handle, its device address, its pages
+ *   7  open; the last call failed: the number of the refusal, its two values. Nothing was lent; records that were sent are off the list
+ * A closing went clean (0), by a reset (1), or everything is kept and must never be given back (2).
  */
 #define HCA_RESULT 40
 uint32_t hca_result(const uint8_t *state, size_t state_bytes, uint8_t *out, size_t out_bytes);
 
 /*
- * What the opening has found out, 133 words; HCA_WRONG unless the session is open.
+ * What the opening has found out, 133 words; HCA_WRONG unless the session is open and no call is running.
  *   0   the UAR BAR: its index, 1 if its length is unknown, the length, how it was chosen; reserved EQs, EQs and reserved UARs by QUERY_FUNC; 1 at revision 3
  *   8   the capabilities: reserved QPs, SRQs, CQs, EQs, EQs, reserved MTTs, MPTs, UARs, PDs, system EQs, ports, logs of QP entries, CQ entries and the least page,
  *       flags, flags 2, BMME, PTYS usable, backplane autonegotiation, UAR bytes, max_icm, then the entry sizes by table index

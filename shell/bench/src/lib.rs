@@ -107,7 +107,7 @@ pub fn rust(plan: &Plan) {
 /// The same by the session.
 pub fn ours(plan: &Plan) {
     let mut world = World::new(plan.clone());
-    let (mut session, mut undo) = (Box::new(Session::new()), Box::new(UndoList::new()));
+    let (mut session, mut undo) = (Box::new(Session::new()), UndoList::new(&mut []));
     let mut over = Over::new(&mut world);
     let mut outcome = None;
     bench_point(&mut || outcome = Some(session.open(&mut over, &mut undo)));

@@ -1,11 +1,13 @@
 //! Compares the proved leaves with the driver's Rust, by running both.
 //!
 //! A case is a list of words and some bytes; a leaf says how to make cases, and what the Rust and the proved function
-//! give for one. `run` has the comparison, `stored` the sample that the program `replay` reads. `machines` and `sessions`
-//! compare tasks and whole sessions, `arbitrary` calls the functions of include/hca.h with anything at all.
+//! give for one. `run` has the comparison, `stored` the sample that the program `replay` reads. `machines` compares tasks,
+//! `sessions` openings and closes, `calls` lists of all calls; `arbitrary` calls the functions of include/hca.h with anything
+//! at all.
 
 pub mod arbitrary;
 pub mod bars;
+pub mod calls;
 pub mod command;
 pub mod ffi;
 pub mod fields;

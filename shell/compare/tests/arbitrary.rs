@@ -1,30 +1,7 @@
 //! A part of the random and damaged calls of every function of include/hca.h.
+#![cfg(not(hca_old))]
 
-use std::ptr::{null, null_mut};
-
-use compare::arbitrary::{self, FUNCTIONS};
-use session::abi::{SHORT, STATE};
-use session::ffi;
-
-extern "sysv64" {
-    fn hca_fresh(state: *mut u8, state_bytes: usize) -> u32;
-    fn hca_open(
-        state: *mut u8,
-        state_bytes: usize,
-        inbox: *mut u8,
-        inbox_bytes: usize,
-        outbox: *mut u8,
-        outbox_bytes: usize,
-        count: usize,
-        op: u16,
-        op_mod: u8,
-        in_mod: u32,
-        in_param: u64,
-        out: *mut u8,
-        out_bytes: usize,
-    ) -> u32;
-    fn hca_books(state: *const u8, state_bytes: usize, out: *mut u8, out_bytes: usize) -> u32;
-}
+use compare::arbitrary::{self, FUNCTIONS, NUMBERS};
 
 const CALLS: u64 = if cfg!(debug_assertions) { 20_000 } else { 200_000 };
 
@@ -33,8 +10,9 @@ fn arbitrary_calls_are_taken_or_refused_and_write_nowhere_else() {
     let figures = arbitrary::run(9, CALLS).unwrap_or_else(|why| panic!("{why}"));
     println!("{figures}");
     assert_eq!(figures.sum().iter().sum::<u64>(), CALLS);
-    for ((_, name), [taken, wrong, short]) in FUNCTIONS.iter().zip(figures.given) {
-        assert!(taken > 0 && short > 0 && (wrong > 0) == (*name != "hca_fresh"), "{name}: {taken} {wrong} {short}");
+    for ((function, name), given) in FUNCTIONS.iter().zip(figures.given) {
+        let has = |n: &u32| function.numbers().contains(n);
+        assert!(NUMBERS.iter().zip(given).all(|(n, times)| has(n) == (times > 0)), "{name}: {given:?}");
     }
     assert!(figures.known > CALLS / 4 && figures.wrapper > CALLS / 20 && figures.damaged > CALLS / 50, "{figures}");
 }
@@ -46,20 +24,67 @@ fn a_seed_decides_the_calls() {
     assert_ne!(arbitrary::run(3, 500), arbitrary::run(4, 500));
 }
 
-/// A pointer may be null where its length is 0.
-#[test]
-fn null_pointers_to_no_bytes() {
-    let mut state = [0; STATE];
-    assert_eq!(ffi::fresh(&mut state), 0);
-    let before = state;
-    let none = null_mut();
-    // SAFETY: every slice is whole, or has no bytes.
-    unsafe {
-        assert_eq!(hca_fresh(none, 0), SHORT);
-        assert_eq!(hca_books(null(), 0, none, 0), SHORT);
-        assert_eq!(hca_books(state.as_ptr(), STATE, none, 0), SHORT);
-        assert_eq!(hca_open(none, 0, none, 0, none, 0, 0, 0, 0, 0, 0, none, 0), SHORT);
-        assert_eq!(hca_open(state.as_mut_ptr(), STATE, none, 0, none, 0, 0, 0, 0, 0, 0, none, 0), SHORT);
+mod null {
+    use std::ptr::{null, null_mut};
+
+    use session::abi::{OPEN, SHORT, STATE, WRONG};
+    use session::{ffi, Undo};
+
+    extern "sysv64" {
+        fn hca_fresh(state: *mut u8, state_bytes: usize) -> u32;
+        fn hca_call(
+            state: *mut u8,
+            state_bytes: usize,
+            kind: u32,
+            op: u16,
+            op_mod: u8,
+            in_mod: u32,
+            value: u64,
+            input: *const u8,
+            input_bytes: usize,
+            inbox: *mut u8,
+            inbox_bytes: usize,
+            outbox: *mut u8,
+            outbox_bytes: usize,
+            undo: *const Undo,
+            undo_records: usize,
+            count: usize,
+            out: *mut u8,
+            out_bytes: usize,
+        ) -> u32;
+        fn hca_push_undo(
+            undo: *mut Undo,
+            undo_records: usize,
+            count: usize,
+            op: u16,
+            op_mod: u8,
+            in_mod: u32,
+            in_param: u64,
+        ) -> u32;
+        fn hca_books(state: *const u8, state_bytes: usize, out: *mut u8, out_bytes: usize) -> u32;
     }
-    assert_eq!(state, before);
+
+    /// A pointer may be null where its length is 0.
+    #[test]
+    fn null_pointers_to_no_bytes() {
+        let mut state = [0; STATE];
+        assert_eq!(ffi::fresh(&mut state), 0);
+        let before = state;
+        let none = null_mut();
+        // SAFETY: every slice is whole, or has no bytes.
+        unsafe {
+            assert_eq!(hca_fresh(none, 0), SHORT);
+            assert_eq!(hca_books(null(), 0, none, 0), SHORT);
+            assert_eq!(hca_books(state.as_ptr(), STATE, none, 0), SHORT);
+            let list: *const Undo = null();
+            let call = |state: *mut u8, bytes: usize, kind: u32| {
+                hca_call(state, bytes, kind, 0, 0, 0, 0, null(), 0, none, 0, none, 0, list, 0, 0, none, 0)
+            };
+            assert_eq!(call(none, 0, OPEN), SHORT);
+            assert_eq!(call(state.as_mut_ptr(), STATE, OPEN), SHORT);
+            assert_eq!(call(state.as_mut_ptr(), STATE, 10), WRONG);
+            assert_eq!(hca_push_undo(null_mut(), 0, 0, 0x20, 0, 0, 0), SHORT);
+        }
+        assert_eq!(state, before);
+    }
 }

@@ -5,46 +5,28 @@ use compare::sessions::answers::{good, suits, told};
 use compare::sessions::beside::{ours, rust, Ran};
 use compare::sessions::cases::{self, Case};
 use compare::sessions::over::Over;
-use session::abi::{self, Words};
-use session::ffi::{self, Lent, Reader, Told};
+use session::abi::{self, Words, UNDO_RECORDS};
+use session::ffi::{self, Called, Lent, Reader, Told};
 use session::{Closing, Outcome, Question, Refusal, Refused, Session, Undo, UndoList};
 use world::plan::OddMap;
 use world::prng::Prng;
 use world::trace::{Event, Trace};
 use world::{World, PAGE};
 
+mod lent;
+
+use lent::{refused, short, Copies};
+
 const DAMAGES: u64 = if cfg!(debug_assertions) { 2_000 } else { 300_000 };
 /// So many turns lie between two at which everything is tried.
 const STRIDE: usize = if cfg!(debug_assertions) { 41 } else { 1 };
 
-/// What is lent to a call, in copies.
-#[derive(Clone, PartialEq, Eq, Debug)]
-struct Copies {
-    state: Vec<u8>,
-    inbox: Vec<u8>,
-    outbox: Vec<u8>,
-    count: usize,
-    out: Vec<u8>,
+fn open(l: Lent) -> u32 {
+    ffi::call(l, Called::OPEN)
 }
 
-impl Copies {
-    fn of(s: &Session) -> Copies {
-        let (state, inbox, outbox) = (s.state().to_vec(), s.inbox().to_vec(), s.outbox().to_vec());
-        Copies { state, inbox, outbox, count: 0, out: vec![0x5a; abi::TURN] }
-    }
-
-    fn call(&mut self, call: impl FnOnce(Lent) -> u32) -> u32 {
-        let Copies { state, inbox, outbox, count, out } = self;
-        call(Lent { state, inbox, outbox, count: *count, top: Undo::default(), out })
-    }
-}
-
-/// A call that must be refused with this number, and leave every byte.
-fn refused(copies: &Copies, number: u32, what: &str, call: impl FnOnce(Lent) -> u32) {
-    let mut after = copies.clone();
-    let given = after.call(call);
-    assert_eq!(given, number, "{what}");
-    assert!(after == *copies, "{what}: something was changed");
+fn close(l: Lent) -> u32 {
+    ffi::call(l, Called::CLOSE)
 }
 
 /// Every kind that does not suit, and values that are too wide for theirs.
@@ -55,33 +37,11 @@ fn wrong_answers(q: Question) -> Vec<Told<'static>> {
     all
 }
 
-/// What is lent, with one thing too short, too long or too many.
-fn short(copies: &Copies) -> Vec<(&'static str, Copies)> {
-    let with = |change: &dyn Fn(&mut Copies)| {
-        let mut c = copies.clone();
-        change(&mut c);
-        c
-    };
-    vec![
-        ("state", with(&|c| c.state.truncate(abi::STATE - 1))),
-        ("no state", with(&|c| c.state.clear())),
-        ("inbox", with(&|c| c.inbox.truncate(abi::MAILBOX - 1))),
-        ("no inbox", with(&|c| c.inbox.clear())),
-        ("long inbox", with(&|c| c.inbox.push(0))),
-        ("outbox", with(&|c| c.outbox.truncate(abi::MAILBOX - 1))),
-        ("no outbox", with(&|c| c.outbox.clear())),
-        ("long outbox", with(&|c| c.outbox.push(0))),
-        ("out", with(&|c| c.out.truncate(abi::TURN - 1))),
-        ("no out", with(&|c| c.out.clear())),
-        ("undo records", with(&|c| c.count = abi::UNDO_RECORDS + 1)),
-        ("very many undo records", with(&|c| c.count = usize::MAX)),
-    ]
-}
-
 /// Everything that is refused while a question is open.
 fn try_all(copies: &Copies, q: Question) {
-    refused(copies, abi::WRONG, "open", ffi::open);
-    refused(copies, abi::WRONG, "close", ffi::close);
+    for kind in 0..12 {
+        refused(copies, abi::WRONG, &format!("call {kind}"), |l| ffi::call(l, Called::of(kind, 0)));
+    }
     for t in wrong_answers(q) {
         refused(copies, abi::WRONG, &format!("{q:?} {t:?}"), |l| ffi::answer(l, t));
     }
@@ -94,7 +54,7 @@ fn try_all(copies: &Copies, q: Question) {
         if !what.ends_with("state") {
             let wrong = if t.kind == abi::QWORD { abi::WORD } else { abi::QWORD };
             refused(&c, abi::WRONG, &format!("{q:?} {what}, wrong kind"), |l| ffi::answer(l, told(wrong, 1, 0)));
-            refused(&c, abi::WRONG, &format!("{q:?} {what}, open"), ffi::open);
+            refused(&c, abi::WRONG, &format!("{q:?} {what}, open"), open);
         }
     }
     try_readers(copies, q);
@@ -167,20 +127,22 @@ fn shortened(session: &Session, what: &str, call: fn(Lent) -> u32) {
 fn refused_calls_change_nothing_at_any_question() {
     for case in [&cases::variants()[2], &cases::variants()[3]] {
         let mut bus = World::new(case.plan.clone());
-        let (mut session, mut undo) = (Session::with_mailboxes([0xa5; 4096], [0xa5; 4096]), UndoList::new());
+        let mut records = [Undo::default(); UNDO_RECORDS];
+        let (mut session, mut undo) =
+            (Session::with_mailboxes([0xa5; 4096], [0xa5; 4096]), UndoList::new(&mut records));
         let mut at = 0;
-        idle(&session, &[ffi::close]);
-        shortened(&session, "open", ffi::open);
+        idle(&session, &[close]);
+        shortened(&session, "open", open);
         let first = session.begin_open(&mut undo).expect("a fresh session");
         through(&mut session, &mut bus, &mut undo, first, &mut at);
         assert_eq!(session.result(), Ok(Outcome::Open));
-        idle(&session, &[ffi::open]);
-        shortened(&session, "close", ffi::close);
-        assert!(undo.push(Undo { op: 0x20, ..Undo::default() }));
+        idle(&session, &[open]);
+        shortened(&session, "close", close);
+        undo.push(Undo { op: 0x20, ..Undo::default() }).expect("room");
         let first = session.begin_close(&mut undo).expect("an open session");
         through(&mut session, &mut bus, &mut undo, first, &mut at);
         assert_eq!(session.result(), Ok(Outcome::Closed(Closing::Clean)));
-        idle(&session, &[ffi::open, ffi::close]);
+        idle(&session, &[open, close]);
         assert_eq!(session.setup(), Err(Refused::Wrong));
         assert!(at > 700, "{at} questions");
     }
@@ -273,6 +235,12 @@ fn too_many_auxiliary_pages_are_18() {
     assert!(questions(&run.opening).contains(&format!("alloc {} -> fail", (1u64 << 52) - 1)));
 }
 
+/// A record that may have any opcode: the caller has written it to his list himself.
+fn pushed_anyhow(undo: &mut UndoList, op: u16) {
+    undo.push(Undo { op: 0x20, ..Undo::default() }).expect("room");
+    undo.records_mut().last_mut().expect("a record").op = op;
+}
+
 /// Records that stand on the list when an opening fails are sent by its closing; one that is reserved counts as failed.
 #[test]
 fn records_at_a_failed_opening() {
@@ -280,8 +248,10 @@ fn records_at_a_failed_opening() {
         let mut case = cases::variants()[0].clone();
         case.plan.card.replies.cap[0x37] = 3;
         let mut bus = world::traced::Traced::new(World::new(case.plan));
-        let (mut session, mut undo) = (Session::new(), UndoList::new());
-        assert!(undo.push(Undo { op: 0x21, ..Undo::default() }) && undo.push(Undo { op, ..Undo::default() }));
+        let mut records = [Undo::default(); UNDO_RECORDS];
+        let (mut session, mut undo) = (Session::new(), UndoList::new(&mut records));
+        undo.push(Undo { op: 0x21, ..Undo::default() }).expect("room");
+        pushed_anyhow(&mut undo, op);
         let outcome = session.open(&mut Over::new(&mut bus), &mut undo).expect("a fresh session");
         assert_eq!(outcome, Outcome::Failed(Refusal::Ports(3), closing));
         assert_eq!(undo.len(), 2 - sent);
@@ -296,12 +266,13 @@ fn records_at_a_failed_opening() {
 #[test]
 fn a_full_undo_list() {
     let mut bus = World::new(cases::variants()[0].plan.clone());
-    let (mut session, mut undo) = (Session::new(), UndoList::new());
+    let mut records = [Undo::default(); UNDO_RECORDS];
+    let (mut session, mut undo) = (Session::new(), UndoList::new(&mut records));
     assert_eq!(session.open(&mut Over::new(&mut bus), &mut undo), Ok(Outcome::Open));
     for i in 0..256 {
-        assert!(undo.push(Undo { op: 0x20, op_mod: 0, in_mod: i, in_param: 0 }));
+        undo.push(Undo { op: 0x20, op_mod: 0, in_mod: i, in_param: 0 }).expect("room");
     }
-    assert!(!undo.push(Undo::default()));
+    assert_eq!(undo.push(Undo::default()), Err(Refused::Full));
     let mut bus = world::traced::Traced::new(bus);
     assert_eq!(session.close(&mut Over::new(&mut bus), &mut undo), Ok(Outcome::Closed(Closing::Clean)));
     let sent: Vec<u32> = bus.trace.posts().filter(|p| p.op == 0x20).map(|p| p.in_mod).collect();
@@ -324,7 +295,8 @@ fn a_poll_touches_the_first_words_alone() {
     let mut case = cases::variants()[0].clone();
     case.plan.card.commands = vec![(world::plan::Which::Number(3), world::plan::Behaviour::after(1_005))];
     let mut bus = World::new(case.plan);
-    let (mut session, mut undo) = (Session::new(), UndoList::new());
+    let mut records = [Undo::default(); UNDO_RECORDS];
+    let (mut session, mut undo) = (Session::new(), UndoList::new(&mut records));
     let mut q = session.begin_open(&mut undo).expect("a fresh session");
     let (mut list, mut polled) = ([0; 64], 0);
     while q != Question::Finished {
@@ -354,7 +326,8 @@ fn a_poll_touches_the_first_words_alone() {
 fn handles_are_any_numbers() {
     let run = |mask: u64| {
         let mut bus = world::traced::Traced::new(World::new(cases::variants()[0].plan.clone()));
-        let (mut session, mut undo) = (Session::new(), UndoList::new());
+        let mut records = [Undo::default(); UNDO_RECORDS];
+        let (mut session, mut undo) = (Session::new(), UndoList::new(&mut records));
         let mut over = Over::masked(&mut bus, mask);
         assert_eq!(session.open(&mut over, &mut undo), Ok(Outcome::Open));
         assert_eq!(session.books().expect("a session").inbox.map(|b| b.handle), Some(1 ^ mask));
@@ -370,10 +343,11 @@ fn handles_are_any_numbers() {
 /// The opcodes that a close sends when the list is changed at its first stop behind the command `op`.
 fn closed_with(change: impl Fn(&mut UndoList), op: u16) -> (Vec<u16>, Outcome, usize) {
     let mut bus = world::traced::Traced::new(World::new(cases::variants()[0].plan.clone()));
-    let (mut session, mut undo) = (Session::new(), UndoList::new());
+    let mut records = [Undo::default(); UNDO_RECORDS];
+    let (mut session, mut undo) = (Session::new(), UndoList::new(&mut records));
     assert_eq!(session.open(&mut Over::new(&mut bus), &mut undo), Ok(Outcome::Open));
     bus.take();
-    assert!(undo.push(Undo { op: 0x21, ..Undo::default() }) && undo.push(Undo { op: 0x22, ..Undo::default() }));
+    [0x21, 0x22].iter().for_each(|op| undo.push(Undo { op: *op, ..Undo::default() }).expect("room"));
     let mut q = session.begin_close(&mut undo).expect("an open session");
     let mut list = [0; 64];
     let mut changed = false;
@@ -393,7 +367,7 @@ fn closed_with(change: impl Fn(&mut UndoList), op: u16) -> (Vec<u16>, Outcome, u
 #[test]
 fn a_list_that_changes_while_it_is_sent() {
     const NEXT: [u16; 3] = [0x008, 0xff9, 0xff9];
-    let more = |op: u16| move |undo: &mut UndoList| assert!(undo.push(Undo { op, ..Undo::default() }));
+    let more = |op: u16| move |undo: &mut UndoList| pushed_anyhow(undo, op);
     let (sent, outcome, left) = closed_with(more(0x23), 0x22);
     assert_eq!(sent[..4], [0x22, 0x23, 0x21, NEXT[0]]);
     assert_eq!((outcome, left), (Outcome::Closed(Closing::Clean), 0));
@@ -413,7 +387,8 @@ fn snapshots() -> Vec<(Copies, Question)> {
     let mut all = Vec::new();
     let case = &cases::variants()[5];
     let mut bus = World::new(case.plan.clone());
-    let (mut session, mut undo) = (Session::new(), UndoList::new());
+    let mut records = [Undo::default(); UNDO_RECORDS];
+    let (mut session, mut undo) = (Session::new(), UndoList::new(&mut records));
     let mut list = [0; 64];
     let mut q = session.begin_open(&mut undo).expect("a fresh session");
     for closing in [false, true] {
@@ -469,8 +444,8 @@ fn damaged_bytes_never_fault() {
             let before = damaged.clone();
             let t = any_answer(&mut r, *q);
             let number = match r.below(8) {
-                0 => damaged.call(ffi::open),
-                1 => damaged.call(ffi::close),
+                0 => damaged.call(open),
+                1 => damaged.call(close),
                 _ => damaged.call(|l| ffi::answer(l, t)),
             };
             match number {
@@ -496,14 +471,14 @@ fn random_bytes_are_no_session() {
     let mut r = Prng::new(6);
     for _ in 0..DAMAGES / 100 {
         let state = r.bytes(abi::STATE);
-        let copies = Copies { state, inbox: vec![0; 4096], outbox: vec![0; 4096], count: 0, out: vec![0; abi::TURN] };
-        refused(&copies, abi::WRONG, "open", ffi::open);
-        refused(&copies, abi::WRONG, "close", ffi::close);
+        let copies = Copies { state, ..Copies::of(&Session::new()) };
+        refused(&copies, abi::WRONG, "open", open);
+        refused(&copies, abi::WRONG, "close", close);
         refused(&copies, abi::WRONG, "answer", |l| ffi::answer(l, told(abi::DONE, 0, 0)));
         let mut out = vec![0; abi::BOOKS];
         assert_eq!(ffi::read(Reader::Books, &copies.state, &mut out), abi::WRONG);
         for (what, c) in short(&copies).into_iter().filter(|(what, _)| !what.ends_with("state")) {
-            refused(&c, abi::WRONG, what, ffi::open);
+            refused(&c, abi::WRONG, what, open);
         }
     }
 }

@@ -1,12 +1,13 @@
-//! The stored sessions: their form is enough to run them again.
+//! The stored lists of calls: their form is enough to run them again.
+#![cfg(not(hca_old))]
 
 use std::fmt::Write;
 
-use compare::sessions::sample::{cases, sample};
-use compare::sessions::stored::checksum;
-use session::abi::Words;
-use session::ffi::{self, Reader};
-use session::{Answer, Mapping, Question, Session, Undo, UndoList};
+use compare::calls::sample::{cases, sample};
+use compare::calls::stored::checksum;
+use session::abi::{self, Words};
+use session::ffi::{self, Called, Reader};
+use session::{Answer, Mapping, Question, Session, Undo};
 
 /// The bytes of a record that were not read yet.
 struct Bytes<'a>(&'a [u8]);
@@ -66,13 +67,17 @@ fn line(q: Question) -> String {
     }
 }
 
+/// The kind of a record that is pushed.
+const PUSH: u32 = 10;
+
 /// A session on stored answers, over the functions of include/hca.h.
 struct Replay<'a> {
     state: Vec<u8>,
     inbox: Vec<u8>,
     outbox: Vec<u8>,
     out: [u8; 40],
-    undo: UndoList,
+    undo: [Undo; abi::UNDO_RECORDS],
+    count: usize,
     answers: Bytes<'a>,
     /// The answer before the next one, where the two may be given in turn.
     last: Answer<'a>,
@@ -81,11 +86,10 @@ struct Replay<'a> {
 
 impl<'a> Replay<'a> {
     fn call(&mut self, call: impl FnOnce(ffi::Lent) -> u32) -> Question {
-        let Replay { state, inbox, outbox, out, undo, .. } = self;
-        let top = undo.records().last().copied().unwrap_or_default();
-        let lent = ffi::Lent { state, inbox, outbox, count: undo.len(), top, out };
-        assert_eq!(call(lent), 0, "the call is taken");
-        self.undo.truncate(Words(&self.out).at(4) as usize);
+        let Replay { state, inbox, outbox, out, undo, count, text, .. } = self;
+        let lent = ffi::Lent { state, inbox, outbox, undo, count: *count, out };
+        assert_eq!(call(lent), 0, "the call is taken, behind\n{}", text.lines().last().unwrap_or_default());
+        self.count = Words(&self.out).at(4) as usize;
         Question::of(&Words(&self.out)).expect("a question")
     }
 
@@ -154,87 +158,110 @@ impl<'a> Replay<'a> {
         (0..asked).for_each(|p| self.row("port", &s[40 + 17 * p..57 + 17 * p]));
         self.row("layout", &s[74..78]);
         (0..11).for_each(|t| self.row("table", &s[78 + 5 * t..83 + 5 * t]));
-        let b = self.read(Reader::Books, 280);
-        self.row("books", &[&b[..5], &b[6..11]].concat());
     }
 
-    /// Whether the opening was good.
-    fn opening(&mut self) -> bool {
-        let first = self.call(ffi::open);
-        self.run(first);
+    fn books(&mut self) {
+        let b = self.read(Reader::Books, 280);
+        self.row("books", &[&b[..5], &b[6..11]].concat());
+        (0..b[1] as usize).for_each(|k| self.row("lent", &b[88 + 3 * k..91 + 3 * k]));
+        self.row("undo", &[self.count as u64]);
+    }
+
+    /// What a call came to.
+    fn told(&mut self, kind: u32) {
         let r = self.read(Reader::Result, 5);
-        let good = r[0] == 2;
-        self.row("ended", &[r[1], r[2], r[3], r[4], 0]);
-        if good {
+        self.row("gave", &r);
+        let open = [2, 5, 6, 7].contains(&r[0]);
+        if open && kind == abi::OPEN {
             self.opened();
+        }
+        if open {
+            self.books();
         }
         let boxes = [checksum(&self.inbox), checksum(&self.outbox)];
         self.row("boxes", &boxes);
-        good
     }
 
-    fn close(&mut self) {
-        let first = self.call(ffi::close);
-        self.run(first);
-        let r = self.read(Reader::Result, 5);
-        self.row("closed", &r[4..]);
+    fn push(&mut self, c: Called) {
+        let record = Undo { op: c.op, op_mod: c.op_mod, in_mod: c.in_mod, in_param: c.value };
+        assert_eq!(ffi::push_undo(&mut self.undo, self.count, record), 0, "a record that may be pushed");
+        self.count += 1;
+        self.row("undo", &[self.count as u64]);
     }
+
+    /// One call of a record.
+    fn called(&mut self, c: Called) {
+        self.row("call", &[c.kind.into()]);
+        if c.kind == PUSH {
+            return self.push(c);
+        }
+        let first = self.call(|l| ffi::call(l, c));
+        self.run(first);
+        self.told(c.kind);
+    }
+}
+
+/// The next call.
+fn call<'a>(calls: &mut Bytes<'a>) -> Called<'a> {
+    let kind = calls.number(1) as u32;
+    let (op, op_mod) = (calls.number(2) as u16, calls.number(1) as u8);
+    let (in_mod, value, n) = (calls.number(4) as u32, calls.number(8), calls.number(2) as usize);
+    Called { kind, op, op_mod, in_mod, value, input: calls.take(n) }
 }
 
 /// One record; what it prints.
 fn replayed(input: &mut Bytes) -> String {
-    let [calls, words, _, bytes] = [(); 4].map(|()| input.number(2) as usize);
-    let mut undo = UndoList::new();
-    let records: Vec<u64> = (0..words).map(|_| input.number(8)).collect();
+    let [count, call_bytes, _, answer_bytes] = [(); 4].map(|()| input.number(2) as usize);
+    let mut calls = Bytes(input.take(call_bytes));
     let mut replay = Replay {
         state: Session::new().state().to_vec(),
         inbox: vec![0xa5; 4096],
         outbox: vec![0xa5; 4096],
         out: [0; 40],
-        undo: UndoList::new(),
-        answers: Bytes(input.take(bytes)),
+        undo: [Undo::default(); abi::UNDO_RECORDS],
+        count: 0,
+        answers: Bytes(input.take(answer_bytes)),
         last: Answer::Done,
         text: String::new(),
     };
-    for w in records.chunks(2) {
-        let record = Undo { op: (w[0] >> 48) as u16, op_mod: (w[0] >> 32) as u8, in_mod: w[0] as u32, in_param: w[1] };
-        assert!(undo.push(record));
-    }
-    if replay.opening() && calls == 2 {
-        replay.undo = undo;
-        replay.close();
-    }
-    assert!(replay.answers.0.is_empty(), "every answer is given");
+    (0..count).for_each(|_| replay.called(call(&mut calls)));
+    assert!(calls.0.is_empty() && replay.answers.0.is_empty(), "every call is made, every answer is given");
     replay.text
 }
 
 #[test]
 fn the_stored_sessions_can_be_run_from_their_form() {
     let (stdin, stdout) = sample();
-    assert!(stdin.len() < 300_000, "{} bytes", stdin.len());
+    assert!(stdin.len() < 400_000, "{} bytes", stdin.len());
     let mut input = Bytes(&stdin);
     let mut records = 0;
     let mut written = String::new();
+    let cases = cases();
     while !input.0.is_empty() {
+        println!("{}", cases[records].name);
         written.push_str(&replayed(&mut input));
         records += 1;
     }
-    assert_eq!(records, cases().len());
+    assert_eq!(records, cases.len());
     for (n, (rust, session)) in stdout.lines().zip(written.lines()).enumerate() {
         assert_eq!(rust, session, "line {}", n + 1);
     }
     assert_eq!(stdout, written);
 }
 
-/// Every refusal up to 17, and every closing.
+/// Every kind of call, every end of an opening and of a close, and every refusal that the Rust has.
 #[test]
 fn every_end_is_stored() {
     let (_, stdout) = sample();
     let has = |start: &str| assert!(stdout.lines().any(|l| l.starts_with(start)), "{start}");
-    (0..=17).for_each(|n| has(&format!("ended {n:x} ")));
-    (0..3).for_each(|c| has(&format!("closed {c:x}")));
-    has("ended 7 3938700 0 2");
-    has("ended 7 3938700 0 1");
+    (0..=10).for_each(|kind| has(&format!("call {kind:x}")));
+    (1..=17).for_each(|n| has(&format!("gave 3 {n:x} ")));
+    (0..3).for_each(|c| has(&format!("gave 4 0 0 0 {c:x}")));
+    [2, 5, 6].iter().for_each(|r| has(&format!("gave {r} ")));
+    [5, 6, 7, 8, 9, 23].iter().for_each(|n| has(&format!("gave 7 {n:x} ")));
+    has("gave 3 7 3938700 0 2");
+    has("gave 3 7 3938700 0 1");
+    has("gave 7 7 3938700 0 0");
 }
 
 /// What the gate has stored is what the Rust does today.

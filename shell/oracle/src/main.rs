@@ -5,8 +5,8 @@ use std::process::ExitCode;
 
 use oracle::leaves;
 use oracle::run;
-use world::calls::{self, Call};
-use world::plan::Plan;
+use world::calls::{self, Call, List};
+use world::plan::{Later, Plan};
 use world::registers::INIT_HCA;
 use world::results::{Given, Outcome};
 use world::trace::{hex, Trace};
@@ -167,26 +167,22 @@ fn bytes(reply: &[&str]) -> Result<Vec<u8>, String> {
 }
 
 fn session(what: &str, seed: &str, form: fn(&Trace) -> String) -> Result<String, String> {
-    let (plan, calls) = match seed {
-        "obedient" => (Plan::obedient(), vec![Call::Open, Call::Close]),
+    let short = |calls: &[Call]| List { calls: calls.to_vec(), later: Later::default() };
+    let (plan, list) = match seed {
+        "obedient" => (Plan::obedient(), short(&[Call::Open, Call::Close])),
         _ => (Plan::seeded(number(seed)?), calls::seeded(number(seed)?)),
     };
-    let calls = match what {
-        "open" => vec![Call::Open],
-        "close" => vec![Call::Open, Call::Close],
-        _ => calls,
+    let list = match what {
+        "open" => short(&[Call::Open]),
+        "close" => short(&[Call::Open, Call::Close]),
+        _ => list,
     };
     let (world, mut driver) = run::in_world(plan);
     let mut text = String::new();
-    for call in &calls {
-        let given = run::call(&mut driver, call);
-        let over = *call == Call::Open && given.is_err();
+    run::list(&world, &mut driver, &list, |call, given| {
         let trace = world.borrow_mut().take();
         text += &format!("call {call:?}\n{}result {}\n", form(&trace), result(given));
-        if over {
-            break;
-        }
-    }
+    });
     Ok(text)
 }
 

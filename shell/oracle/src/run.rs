@@ -8,7 +8,7 @@ use std::cell::RefCell;
 use std::rc::Rc;
 
 use world::bus::Bus;
-use world::calls::{Call, Command, Form};
+use world::calls::{Call, Command, Form, List};
 use world::plan::Plan;
 use world::results::{
     Buffer, Capabilities, Closing, Done, Given, Layout, Opened, Outcome, Port, Refusal, State, Stop, Table, Undo,
@@ -225,6 +225,21 @@ pub fn call(d: &mut Driver, call: &Call) -> Outcome<Given> {
         Call::UndoTo { mark } => undo_to(d, *mark).map(|()| Given::Nothing),
         Call::Quiesce => quiesce(d).map(|()| Given::Nothing),
         Call::Close => close(d).map(Given::Closed),
+    }
+}
+
+/// A list of calls, up to an opening that fails; each with what it gave.
+pub fn list(world: &SharedWorld, d: &mut Driver, list: &List, mut each: impl FnMut(&Call, Outcome<Given>)) {
+    for c in &list.calls {
+        let given = call(d, c);
+        let (opening, good) = (*c == Call::Open, given.is_ok());
+        each(c, given);
+        if opening && !good {
+            return;
+        }
+        if opening {
+            world.borrow_mut().bus.schedule(list.later.clone());
+        }
     }
 }
 

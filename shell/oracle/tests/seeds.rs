@@ -17,14 +17,7 @@ fn seeds() -> u64 {
 fn session(seed: u64) -> (SharedWorld, Driver, Vec<(Call, Outcome<Given>)>) {
     let (world, mut driver) = run::in_world(Plan::seeded(seed));
     let mut given = Vec::new();
-    for call in calls::seeded(seed) {
-        let outcome = run::call(&mut driver, &call);
-        let over = call == Call::Open && outcome.is_err();
-        given.push((call, outcome));
-        if over {
-            break;
-        }
-    }
+    run::list(&world, &mut driver, &calls::seeded(seed), |call, outcome| given.push((call.clone(), outcome)));
     (world, driver, given)
 }
 
@@ -76,6 +69,48 @@ fn seeds_stay_inside_the_domain_and_reach_every_end() {
     let numbers = (1..=17).chain([23]).map(|n: u32| n.to_string());
     let all = numbers.chain(["opened", "good", "Clean", "Reset", "Kept"].map(String::from));
     assert_eq!(ends, all.collect::<BTreeSet<_>>());
+}
+
+/// On a good day nearly every opening is good, and the calls behind it end in every way that they have.
+#[test]
+fn lists_reach_every_end_of_every_call() {
+    let mut ends = BTreeSet::new();
+    let mut good = 0;
+    for seed in 0..seeds() {
+        let (world, mut driver) = run::in_world(Plan::seeded(seed).calm());
+        run::list(&world, &mut driver, &calls::seeded(seed), |call, outcome| {
+            good += u64::from(matches!(outcome, Ok(Given::Opened(_))));
+            ends.insert((name(call), end(&outcome)));
+        });
+        let world = &world.borrow().bus;
+        assert_eq!((world.misuse(), world.outside().len()), (&[][..], 0), "seed {seed}");
+    }
+    assert!(good * 10 > seeds() * 8, "{good} of {}", seeds());
+    let of = |names: &[&'static str], ends: &[u32]| -> Vec<(String, u32)> {
+        names.iter().flat_map(|name| ends.iter().map(move |e| (name.to_string(), *e))).collect()
+    };
+    let commands = of(&["Imm", "WithIn", "WithOut", "InImm", "InOut"], &[0, 6, 7, 8, 9]);
+    let others = [of(&["Lend"], &[0, 5]), of(&["UndoTo"], &[0, 23]), of(&["PushUndo", "Quiesce", "Close"], &[0])];
+    let all: BTreeSet<(String, u32)> = commands.into_iter().chain(others.concat()).collect();
+    let missing: Vec<_> = all.difference(&ends).collect();
+    assert!(missing.is_empty(), "{missing:?}");
+}
+
+fn name(call: &Call) -> String {
+    let text = match call {
+        Call::Command(c) => format!("{:?}", c.form),
+        other => format!("{other:?}"),
+    };
+    text.split([' ', '(']).next().unwrap_or_default().to_string()
+}
+
+/// The number of the refusal; 0 where there is none.
+fn end(outcome: &Outcome<Given>) -> u32 {
+    match outcome {
+        Ok(_) => 0,
+        Err(Stop::Refused(r)) => r.number,
+        Err(Stop::Outside(why)) => panic!("{why}"),
+    }
 }
 
 #[test]

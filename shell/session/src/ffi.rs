@@ -5,38 +5,40 @@
 //! The functions read and write the slices that they are lent, keep no pointer, and end on any bytes, lengths and
 //! numbers; so each of these is safe to call.
 
+use crate::abi;
 use crate::undo::Undo;
 
 mod c {
     extern "sysv64" {
         pub fn hca_fresh(state: *mut u8, state_bytes: usize) -> u32;
-        pub fn hca_open(
+        pub fn hca_question(state: *const u8, state_bytes: usize, out: *mut u8, out_bytes: usize) -> u32;
+        pub fn hca_result(state: *const u8, state_bytes: usize, out: *mut u8, out_bytes: usize) -> u32;
+        pub fn hca_setup(state: *const u8, state_bytes: usize, out: *mut u8, out_bytes: usize) -> u32;
+        pub fn hca_books(state: *const u8, state_bytes: usize, out: *mut u8, out_bytes: usize) -> u32;
+    }
+
+    #[cfg(hca_old)]
+    pub use crate::old::{hca_answer, hca_call, hca_push_undo};
+
+    #[cfg(not(hca_old))]
+    extern "sysv64" {
+        pub fn hca_call(
             state: *mut u8,
             state_bytes: usize,
+            kind: u32,
+            op: u16,
+            op_mod: u8,
+            in_mod: u32,
+            value: u64,
+            input: *const u8,
+            input_bytes: usize,
             inbox: *mut u8,
             inbox_bytes: usize,
             outbox: *mut u8,
             outbox_bytes: usize,
+            undo: *const super::Undo,
+            undo_records: usize,
             count: usize,
-            op: u16,
-            op_mod: u8,
-            in_mod: u32,
-            in_param: u64,
-            out: *mut u8,
-            out_bytes: usize,
-        ) -> u32;
-        pub fn hca_close(
-            state: *mut u8,
-            state_bytes: usize,
-            inbox: *mut u8,
-            inbox_bytes: usize,
-            outbox: *mut u8,
-            outbox_bytes: usize,
-            count: usize,
-            op: u16,
-            op_mod: u8,
-            in_mod: u32,
-            in_param: u64,
             out: *mut u8,
             out_bytes: usize,
         ) -> u32;
@@ -52,18 +54,21 @@ mod c {
             inbox_bytes: usize,
             outbox: *mut u8,
             outbox_bytes: usize,
+            undo: *const super::Undo,
+            undo_records: usize,
+            count: usize,
+            out: *mut u8,
+            out_bytes: usize,
+        ) -> u32;
+        pub fn hca_push_undo(
+            undo: *mut super::Undo,
+            undo_records: usize,
             count: usize,
             op: u16,
             op_mod: u8,
             in_mod: u32,
             in_param: u64,
-            out: *mut u8,
-            out_bytes: usize,
         ) -> u32;
-        pub fn hca_question(state: *const u8, state_bytes: usize, out: *mut u8, out_bytes: usize) -> u32;
-        pub fn hca_result(state: *const u8, state_bytes: usize, out: *mut u8, out_bytes: usize) -> u32;
-        pub fn hca_setup(state: *const u8, state_bytes: usize, out: *mut u8, out_bytes: usize) -> u32;
-        pub fn hca_books(state: *const u8, state_bytes: usize, out: *mut u8, out_bytes: usize) -> u32;
     }
 }
 
@@ -72,10 +77,32 @@ pub struct Lent<'a> {
     pub state: &'a mut [u8],
     pub inbox: &'a mut [u8],
     pub outbox: &'a mut [u8],
-    /// How many undo records there are, and the newest one (any if there is none).
+    /// The undo list, and how many of these are on it.
+    pub undo: &'a [Undo],
     pub count: usize,
-    pub top: Undo,
     pub out: &'a mut [u8],
+}
+
+/// A call as it crosses: its kind and its arguments, of which a kind looks at its own.
+#[derive(Clone, Copy, PartialEq, Eq, Debug)]
+pub struct Called<'a> {
+    pub kind: u32,
+    pub op: u16,
+    pub op_mod: u8,
+    pub in_mod: u32,
+    pub value: u64,
+    pub input: &'a [u8],
+}
+
+impl Called<'static> {
+    pub const OPEN: Called<'static> = Called::of(abi::OPEN, 0);
+    pub const QUIESCE: Called<'static> = Called::of(abi::QUIESCE, 0);
+    pub const CLOSE: Called<'static> = Called::of(abi::CLOSE, 0);
+
+    /// A call that is no command, and its number.
+    pub const fn of(kind: u32, value: u64) -> Called<'static> {
+        Called { kind, op: 0, op_mod: 0, in_mod: 0, value, input: &[] }
+    }
 }
 
 /// An answer as it crosses: its kind, two values, and the bytes of a resource list.
@@ -93,60 +120,38 @@ pub fn fresh(state: &mut [u8]) -> u32 {
     unsafe { c::hca_fresh(state.as_mut_ptr(), state.len()) }
 }
 
-type Call = unsafe extern "sysv64" fn(
-    *mut u8,
-    usize,
-    *mut u8,
-    usize,
-    *mut u8,
-    usize,
-    usize,
-    u16,
-    u8,
-    u32,
-    u64,
-    *mut u8,
-    usize,
-) -> u32;
-
-fn begin(call: Call, l: Lent) -> u32 {
-    let u = l.top;
+/// `hca_call`.
+pub fn call(l: Lent, c: Called) -> u32 {
     let (state, inbox, outbox, out) = (l.state, l.inbox, l.outbox, l.out);
-    // SAFETY: four slices, lent as they are; mutable ones do not overlap.
+    // SAFETY: six slices, lent as they are; none overlaps a mutable one.
     unsafe {
-        call(
+        c::hca_call(
             state.as_mut_ptr(),
             state.len(),
+            c.kind,
+            c.op,
+            c.op_mod,
+            c.in_mod,
+            c.value,
+            c.input.as_ptr(),
+            c.input.len(),
             inbox.as_mut_ptr(),
             inbox.len(),
             outbox.as_mut_ptr(),
             outbox.len(),
+            l.undo.as_ptr(),
+            l.undo.len(),
             l.count,
-            u.op,
-            u.op_mod,
-            u.in_mod,
-            u.in_param,
             out.as_mut_ptr(),
             out.len(),
         )
     }
 }
 
-/// `hca_open`.
-pub fn open(l: Lent) -> u32 {
-    begin(c::hca_open, l)
-}
-
-/// `hca_close`.
-pub fn close(l: Lent) -> u32 {
-    begin(c::hca_close, l)
-}
-
 /// `hca_answer`.
 pub fn answer(l: Lent, t: Told) -> u32 {
-    let u = l.top;
     let (state, inbox, outbox, out) = (l.state, l.inbox, l.outbox, l.out);
-    // SAFETY: five slices, lent as they are; none overlaps a mutable one.
+    // SAFETY: six slices, lent as they are; none overlaps a mutable one.
     unsafe {
         c::hca_answer(
             state.as_mut_ptr(),
@@ -160,15 +165,19 @@ pub fn answer(l: Lent, t: Told) -> u32 {
             inbox.len(),
             outbox.as_mut_ptr(),
             outbox.len(),
+            l.undo.as_ptr(),
+            l.undo.len(),
             l.count,
-            u.op,
-            u.op_mod,
-            u.in_mod,
-            u.in_param,
             out.as_mut_ptr(),
             out.len(),
         )
     }
+}
+
+/// `hca_push_undo`.
+pub fn push_undo(undo: &mut [Undo], count: usize, u: Undo) -> u32 {
+    // SAFETY: one slice, lent as it is.
+    unsafe { c::hca_push_undo(undo.as_mut_ptr(), undo.len(), count, u.op, u.op_mod, u.in_mod, u.in_param) }
 }
 
 /// What is read of a session without changing it.

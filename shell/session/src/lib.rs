@@ -1,9 +1,10 @@
 //! A ConnectX-3 card's session for a loader: the functions of include/hca.h, safe and with types.
 //!
 //! The library decides what is asked of the bus, and in what order; it touches no bus. A loader has a `Session` for each
-//! card and a `Bus` that does what a question says, and calls `Session::open` and `Session::close`, which answer questions
-//! until the call has its result. One who wants to do other things between two questions calls `Session::begin_open`,
-//! then `Session::ask` and `Session::answer` in turn.
+//! card, a `Bus` that does what a question says, and an `UndoList` over records of his own. He calls `Session::open`; on the
+//! open session the client commands (`imm`, `with_in`, `with_out`, `in_imm`, `in_out`), `lend`, `undo_to` and `quiesce`; and
+//! `Session::close`. Each answers questions until the call has its result. One who wants to do other things between two
+//! questions calls `Session::begin_open` and its like, then `Session::ask` and `Session::answer` in turn.
 //!
 //! What the loader has to do stands with the methods of `Bus`. In short: registers are not swapped; a null list and null
 //! pages are failures; pages are zeroed; the token of a map is kept under the handle of its pages; a resource list is
@@ -26,7 +27,11 @@
 pub mod abi;
 mod books;
 mod bus;
+mod call;
 pub mod ffi;
+#[cfg(hca_old)]
+#[allow(clippy::too_many_arguments)]
+mod old;
 mod outcome;
 mod question;
 mod session;
@@ -35,6 +40,7 @@ mod undo;
 
 pub use books::{Books, Buffer, Range};
 pub use bus::{Bus, Fence, Mailbox};
+pub use call::{Call, Command};
 pub use outcome::{Closing, Outcome, Refusal};
 pub use question::{Answer, Attribute, Mapping, Question};
 pub use session::{Refused, Session};

@@ -1,8 +1,9 @@
 //! What has become of a session.
 
 use crate::abi::Words;
+use crate::books::Buffer;
 
-/// Why an opening failed, with the values beside document 01's number.
+/// Why an opening or a call on the open session failed, with the values beside document 01's number.
 #[derive(Clone, Copy, PartialEq, Eq, Debug)]
 pub enum Refusal {
     /// 1: the attributes could not be read or enabled.
@@ -41,6 +42,10 @@ pub enum Refusal {
     Total(u64),
     /// 18: a device address is no page multiple, or a size overflows.
     Address,
+    /// 22: an undo record has got an opcode that no client may send since the call began.
+    Reserved,
+    /// 23: an undo command failed, or one was wanted on a broken session.
+    Undo,
 }
 
 impl Refusal {
@@ -65,6 +70,8 @@ impl Refusal {
             Refusal::Entry(_) => 16,
             Refusal::Total(_) => 17,
             Refusal::Address => 18,
+            Refusal::Reserved => 22,
+            Refusal::Undo => 23,
         }
     }
 
@@ -88,6 +95,8 @@ impl Refusal {
             16 => Refusal::Entry(a.try_into().ok()?),
             17 => Refusal::Total(a),
             18 => Refusal::Address,
+            22 => Refusal::Reserved,
+            23 => Refusal::Undo,
             _ => return None,
         })
     }
@@ -115,20 +124,36 @@ impl Closing {
     }
 }
 
-/// What has become of a session.
+/// What has become of a session, and what its last call gave.
 #[derive(Clone, Copy, PartialEq, Eq, Debug)]
 pub enum Outcome {
     /// Not opened yet.
     Fresh,
     /// A call is running.
     Running,
+    /// The session is open, and its last call gave nothing: an opening, `undo_to` or `quiesce`.
     Open,
     /// The opening failed, and was closed as it says.
     Failed(Refusal, Closing),
     Closed(Closing),
+    /// The session is open, and its last call was a good command: its immediate, 0 where the form has none, and the
+    /// microseconds waited.
+    Done {
+        immediate: u64,
+        us: u64,
+    },
+    /// The session is open, and its last call lent this buffer.
+    Lent(Buffer),
+    /// The session is open, and its last call failed.
+    CallFailed(Refusal),
 }
 
 impl Outcome {
+    /// The session is open, whatever its last call gave.
+    pub fn is_open(self) -> bool {
+        matches!(self, Outcome::Open | Outcome::Done { .. } | Outcome::Lent(_) | Outcome::CallFailed(_))
+    }
+
     pub(crate) fn of(w: &Words) -> Option<Outcome> {
         Some(match w.at(0) {
             0 => Outcome::Fresh,
@@ -136,6 +161,9 @@ impl Outcome {
             2 => Outcome::Open,
             3 => Outcome::Failed(Refusal::of(w.at(1), w.at(2), w.at(3))?, Closing::of(w.at(4))?),
             4 => Outcome::Closed(Closing::of(w.at(4))?),
+            5 => Outcome::Done { immediate: w.at(1), us: w.at(2) },
+            6 => Outcome::Lent(Buffer { handle: w.at(1), address: w.at(2), pages: w.at(3) }),
+            7 => Outcome::CallFailed(Refusal::of(w.at(1), w.at(2), w.at(3))?),
             _ => return None,
         })
     }

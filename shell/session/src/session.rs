@@ -3,19 +3,28 @@
 use crate::abi::{self, Words, MAILBOX, STATE, TURN};
 use crate::books::Books;
 use crate::bus::{Bus, Fence, Mailbox};
+use crate::call::{Call, Command};
 use crate::ffi::{self, Lent, Reader};
 use crate::outcome::Outcome;
 use crate::question::{Answer, Question};
 use crate::setup::Setup;
 use crate::undo::UndoList;
 
-/// Why a call was not taken. It has changed nothing, and an open question stays open.
+/// Why a call was not taken. It has changed nothing, and an open question stays open. Where several fit, it is the first of
+/// 20, 21, 22, 19, 18.
 #[derive(Clone, Copy, PartialEq, Eq, Debug)]
 pub enum Refused {
     /// 20: a call at the wrong time, an answer of the wrong kind, or bytes that are no session.
     Wrong,
-    /// 21: a slice is too short. No call of this module lends one.
+    /// 21: an input of more than 4,096 bytes, or a slice for undo records that has no place left.
     Short,
+    /// 22: an opcode that bring-up or closing sends, queries excepted, or that is above 0xfff; at `undo_to` that of any
+    /// record that is wanted.
+    Reserved,
+    /// 19: 64 buffers are lent, or 256 undo records stand on the list.
+    Full,
+    /// 18: more than 2^64 - 4,096 bytes are to be lent.
+    Bytes,
     /// The library gave a number or a word that include/hca.h does not have.
     Unknown,
 }
@@ -59,13 +68,89 @@ impl Session {
 
     /// Brings the card up. Gives `Outcome::Open` or `Outcome::Failed`.
     pub fn open(&mut self, bus: &mut impl Bus, undo: &mut UndoList) -> Result<Outcome, Refused> {
-        self.begin_open(undo)?;
-        self.finish(bus, undo)
+        self.call(Call::Open, bus, undo)
+    }
+
+    /// A client command with an immediate in, and one out. This form and the four below give `Outcome::Done`, or
+    /// `Outcome::CallFailed` with `Status`, `Timeout`, `Busy` or `Bus`, of which the last three break the session: its closing
+    /// will reset the card.
+    pub fn imm(
+        &mut self,
+        bus: &mut impl Bus,
+        undo: &mut UndoList,
+        c: Command,
+        in_param: u64,
+    ) -> Result<Outcome, Refused> {
+        self.call(Call::Imm { command: c, in_param }, bus, undo)
+    }
+
+    /// A client command with an inbox: zeros, and `input` from its first byte on. The inbox is so whatever the command comes
+    /// to.
+    pub fn with_in(
+        &mut self,
+        bus: &mut impl Bus,
+        undo: &mut UndoList,
+        c: Command,
+        input: &[u8],
+    ) -> Result<Outcome, Refused> {
+        self.call(Call::WithIn { command: c, input }, bus, undo)
+    }
+
+    /// A client command with an outbox, which is zeroed first whatever the command comes to; `outbox` has the reply.
+    pub fn with_out(&mut self, bus: &mut impl Bus, undo: &mut UndoList, c: Command) -> Result<Outcome, Refused> {
+        self.call(Call::WithOut { command: c }, bus, undo)
+    }
+
+    /// A client command with an inbox as in `with_in`, and an immediate out.
+    pub fn in_imm(
+        &mut self,
+        bus: &mut impl Bus,
+        undo: &mut UndoList,
+        c: Command,
+        input: &[u8],
+    ) -> Result<Outcome, Refused> {
+        self.call(Call::InImm { command: c, input }, bus, undo)
+    }
+
+    /// A client command with an inbox as in `with_in` and an outbox as in `with_out`.
+    pub fn in_out(
+        &mut self,
+        bus: &mut impl Bus,
+        undo: &mut UndoList,
+        c: Command,
+        input: &[u8],
+    ) -> Result<Outcome, Refused> {
+        self.call(Call::InOut { command: c, input }, bus, undo)
+    }
+
+    /// Pages of so many bytes, one page at least, that the card may use until the session is closed. Gives `Outcome::Lent`, or
+    /// `Outcome::CallFailed` with `Memory` or `Address`, where nothing is lent.
+    pub fn lend(&mut self, bus: &mut impl Bus, undo: &mut UndoList, bytes: u64) -> Result<Outcome, Refused> {
+        self.call(Call::Lend { bytes }, bus, undo)
+    }
+
+    /// Sends the undo records, newest first, until no more than `mark` are on the list. Gives `Outcome::Open`, or
+    /// `Outcome::CallFailed` with `Undo` where one fails, which breaks the session, or where it is broken and one is wanted;
+    /// or with `Reserved` where one has become so meanwhile. The records that were sent are off the list.
+    pub fn undo_to(&mut self, bus: &mut impl Bus, undo: &mut UndoList, mark: usize) -> Result<Outcome, Refused> {
+        self.call(Call::UndoTo { mark }, bus, undo)
+    }
+
+    /// Stops the firmware by the commands of a closing and turns the card's bus mastering off, whatever fails on the way.
+    /// Nothing is freed, so that it can be called where no memory may be. Gives `Outcome::Open`; the session is broken, and
+    /// its closing will reset the card.
+    pub fn quiesce(&mut self, bus: &mut impl Bus, undo: &mut UndoList) -> Result<Outcome, Refused> {
+        self.call(Call::Quiesce, bus, undo)
     }
 
     /// Takes back what is on the undo list, and gives up the card with all that it holds. Gives `Outcome::Closed`.
     pub fn close(&mut self, bus: &mut impl Bus, undo: &mut UndoList) -> Result<Outcome, Refused> {
-        self.begin_close(undo)?;
+        self.call(Call::Close, bus, undo)
+    }
+
+    /// A call from its beginning to its result.
+    pub fn call(&mut self, call: Call, bus: &mut impl Bus, undo: &mut UndoList) -> Result<Outcome, Refused> {
+        self.begin(call, undo)?;
         self.finish(bus, undo)
     }
 
@@ -79,14 +164,59 @@ impl Session {
         self.result()
     }
 
-    /// Begins an opening; its first question.
-    pub fn begin_open(&mut self, undo: &mut UndoList) -> Result<Question, Refused> {
-        self.turn(undo, ffi::open)
+    /// Begins a call; its first question, or `Question::Finished` where there is nothing to ask.
+    pub fn begin(&mut self, call: Call, undo: &mut UndoList) -> Result<Question, Refused> {
+        self.turn(undo, |lent| ffi::call(lent, call.called()))
     }
 
-    /// Begins a close; its first question.
+    /// Begins an opening.
+    pub fn begin_open(&mut self, undo: &mut UndoList) -> Result<Question, Refused> {
+        self.begin(Call::Open, undo)
+    }
+
+    /// Begins `imm`.
+    pub fn begin_imm(&mut self, undo: &mut UndoList, c: Command, in_param: u64) -> Result<Question, Refused> {
+        self.begin(Call::Imm { command: c, in_param }, undo)
+    }
+
+    /// Begins `with_in`.
+    pub fn begin_with_in(&mut self, undo: &mut UndoList, c: Command, input: &[u8]) -> Result<Question, Refused> {
+        self.begin(Call::WithIn { command: c, input }, undo)
+    }
+
+    /// Begins `with_out`.
+    pub fn begin_with_out(&mut self, undo: &mut UndoList, c: Command) -> Result<Question, Refused> {
+        self.begin(Call::WithOut { command: c }, undo)
+    }
+
+    /// Begins `in_imm`.
+    pub fn begin_in_imm(&mut self, undo: &mut UndoList, c: Command, input: &[u8]) -> Result<Question, Refused> {
+        self.begin(Call::InImm { command: c, input }, undo)
+    }
+
+    /// Begins `in_out`.
+    pub fn begin_in_out(&mut self, undo: &mut UndoList, c: Command, input: &[u8]) -> Result<Question, Refused> {
+        self.begin(Call::InOut { command: c, input }, undo)
+    }
+
+    /// Begins `lend`.
+    pub fn begin_lend(&mut self, undo: &mut UndoList, bytes: u64) -> Result<Question, Refused> {
+        self.begin(Call::Lend { bytes }, undo)
+    }
+
+    /// Begins `undo_to`.
+    pub fn begin_undo_to(&mut self, undo: &mut UndoList, mark: usize) -> Result<Question, Refused> {
+        self.begin(Call::UndoTo { mark }, undo)
+    }
+
+    /// Begins `quiesce`.
+    pub fn begin_quiesce(&mut self, undo: &mut UndoList) -> Result<Question, Refused> {
+        self.begin(Call::Quiesce, undo)
+    }
+
+    /// Begins a close.
     pub fn begin_close(&mut self, undo: &mut UndoList) -> Result<Question, Refused> {
-        self.turn(undo, ffi::close)
+        self.begin(Call::Close, undo)
     }
 
     /// Hands in what came of the open question; the next one.
@@ -144,7 +274,7 @@ impl Session {
         Question::of(&Words(&out)).ok_or(Refused::Unknown)
     }
 
-    /// What has become of the session.
+    /// What has become of the session, and what its last call gave.
     pub fn result(&self) -> Result<Outcome, Refused> {
         let mut out = [0; abi::RESULT];
         self.read(Reader::Result, &mut out)?;
@@ -185,9 +315,8 @@ impl Session {
     /// One call: all is lent, the next question is kept, and the undo list is cut to what the call has left on it.
     fn turn(&mut self, undo: &mut UndoList, call: impl FnOnce(Lent) -> u32) -> Result<Question, Refused> {
         let mut out = [0; TURN];
-        let (count, top) = (undo.len(), undo.top());
         let Session { state, inbox, outbox, .. } = self;
-        taken(call(Lent { state, inbox, outbox, count, top, out: &mut out }))?;
+        taken(call(Lent { state, inbox, outbox, undo: undo.room(), count: undo.len(), out: &mut out }))?;
         let words = Words(&out);
         let next = Question::of(&words).ok_or(Refused::Unknown)?;
         undo.truncate(usize::try_from(words.at(4)).map_err(|_| Refused::Unknown)?);
@@ -197,11 +326,15 @@ impl Session {
     }
 }
 
-fn taken(number: u32) -> Result<(), Refused> {
+/// A call's number.
+pub(crate) fn taken(number: u32) -> Result<(), Refused> {
     match number {
         0 => Ok(()),
+        abi::BYTES => Err(Refused::Bytes),
+        abi::FULL => Err(Refused::Full),
         abi::WRONG => Err(Refused::Wrong),
         abi::SHORT => Err(Refused::Short),
+        abi::RESERVED => Err(Refused::Reserved),
         _ => Err(Refused::Unknown),
     }
 }

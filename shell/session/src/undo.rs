@@ -1,8 +1,10 @@
 //! The caller's undo list.
 
-use crate::abi::UNDO_RECORDS;
+use crate::ffi;
+use crate::session::{taken, Refused};
 
-/// A command that takes an object back.
+/// A command that takes an object back, as `hca_undo` of include/hca.h.
+#[repr(C)]
 #[derive(Clone, Copy, PartialEq, Eq, Debug, Default)]
 pub struct Undo {
     pub op: u16,
@@ -11,28 +13,39 @@ pub struct Undo {
     pub in_param: u64,
 }
 
-/// The commands by which a closing takes back what was made on the open session, oldest first; it sends the newest first,
-/// and each is off the list before it is sent. The list is the caller's: he lends it to every call, and may change it
-/// between two of them. Records found on it when an opening fails are sent by that opening's closing.
-#[derive(Clone, PartialEq, Eq, Debug)]
-pub struct UndoList {
-    records: [Undo; UNDO_RECORDS],
+/// The commands that take back what was made on the open session, oldest first, in a slice that the caller lends;
+/// `abi::UNDO_RECORDS` are the most that can stand there. `undo_to`, `quiesce` and a closing send the newest first, and each is
+/// off the list before it is sent. The caller may change the list between any two turns of a call: the newest record is
+/// taken as it stands then. Records found on it when an opening fails are sent by that opening's closing.
+#[derive(PartialEq, Eq, Debug)]
+pub struct UndoList<'a> {
+    records: &'a mut [Undo],
     count: usize,
 }
 
-impl UndoList {
-    pub const fn new() -> UndoList {
-        const NONE: Undo = Undo { op: 0, op_mod: 0, in_mod: 0, in_param: 0 };
-        UndoList { records: [NONE; UNDO_RECORDS], count: 0 }
+impl<'a> UndoList<'a> {
+    /// No records yet; a slice of none is as good as any for a caller who makes no objects.
+    pub fn new(records: &'a mut [Undo]) -> UndoList<'a> {
+        UndoList { records, count: 0 }
     }
 
-    /// Puts a record on; false where the list is full.
-    #[must_use]
-    pub fn push(&mut self, record: Undo) -> bool {
-        let room = self.records.get_mut(self.count);
-        let taken = room.map(|r| *r = record).is_some();
-        self.count += usize::from(taken);
-        taken
+    /// The first so many are on the list, no more than there are.
+    pub fn holding(records: &'a mut [Undo], count: usize) -> UndoList<'a> {
+        let count = count.min(records.len());
+        UndoList { records, count }
+    }
+
+    /// Puts a record on. `Refused::Reserved` where no client may send its opcode, `Refused::Full` behind the 256th,
+    /// `Refused::Short` where the slice has no place for it.
+    pub fn push(&mut self, record: Undo) -> Result<(), Refused> {
+        taken(ffi::push_undo(self.records, self.count, record))?;
+        self.count += 1;
+        Ok(())
+    }
+
+    /// Where the list stands, for `Session::undo_to`.
+    pub fn mark(&self) -> usize {
+        self.count
     }
 
     pub fn len(&self) -> usize {
@@ -52,14 +65,13 @@ impl UndoList {
         &self.records[..self.count]
     }
 
-    /// The newest record; any where there is none.
-    pub(crate) fn top(&self) -> Undo {
-        self.records().last().copied().unwrap_or_default()
+    /// The same, to be changed; what is written here is not looked at before its turn.
+    pub fn records_mut(&mut self) -> &mut [Undo] {
+        &mut self.records[..self.count]
     }
-}
 
-impl Default for UndoList {
-    fn default() -> UndoList {
-        UndoList::new()
+    /// All that is lent, with what stands behind the last record.
+    pub(crate) fn room(&self) -> &[Undo] {
+        self.records
     }
 }

@@ -1,4 +1,4 @@
-//! Opens and closes a session on the simulated card; see `options::USAGE`.
+//! Opens, uses and closes a session on the simulated card; see `options::USAGE`.
 
 use std::io::{self, ErrorKind};
 use std::process::ExitCode;

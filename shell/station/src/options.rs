@@ -2,13 +2,14 @@
 
 use world::plan::{Behaviour, Fault, Which, NEVER};
 
+use crate::uses::Use;
 use crate::words::COMMANDS;
 
 pub const USAGE: &str = "\
 station [OPTIONS]
 
-Opens and closes a session on a simulated ConnectX-3 card, and prints its commands, the UAR BAR, the layout, the ranges
-that are mapped, and the results.
+Opens, uses and closes a session on a simulated ConnectX-3 card, and prints its commands, the UAR BAR, the layout, the
+ranges that are mapped, and the results.
 
   --seed N          a card, a host and faults by that seed, in place of a card that does as it is told
   --fail N          bus call N, from 1, is reported failed and has no effect; stalls and fences are not counted
@@ -19,8 +20,22 @@ that are mapped, and the results.
   --picture FILE    the layout with its mapped ranges as an SVG; FILE - is a picture of text
   --help            this text
 
-OP is a name such as MAP_FA, or an opcode. Numbers are decimal, or hexadecimal after 0x. --fail, --status and --timeout
-may be given several times. The exit status is 0 if the session was opened and closed clean, 2 if an option is bad, else 1.
+On the open session, in the order in which they are given:
+
+  --imm OP[,MOD[,PARAM]]       a client command with an immediate in and out
+  --with-in OP[,MOD[,HEX]]     with an inbox that begins with these bytes
+  --with-out OP[,MOD]          with an outbox
+  --in-imm OP[,MOD[,HEX]]      with an inbox, and an immediate out
+  --in-out OP[,MOD[,HEX]]      with an inbox and an outbox
+  --lend BYTES                 pages for the card, kept until the close
+  --undo OP[,MOD[,PARAM]]      puts a record on the undo list, which an undoing, a quiesce and the close send
+  --undo-to MARK               sends undo records until so many are left
+  --quiesce                    stops the firmware and its bus mastering, and frees nothing
+
+OP is a name such as MAP_FA, or an opcode; of a client command or a record also OP/M, with an opcode modifier. MOD is the
+input modifier. Numbers are decimal, or hexadecimal after 0x; HEX is pairs of digits. Options other than --seed, --trace
+and --picture may be given several times. The exit status is 0 if the session was opened, every call on it was good, and it
+was closed clean, or by a reset behind a quiesce; 2 if an option is bad; else 1.
 ";
 
 /// Where a picture goes.
@@ -38,6 +53,8 @@ pub struct Options {
     pub commands: Vec<(u16, Behaviour)>,
     pub trace: bool,
     pub picture: Option<Picture>,
+    /// What is called on the open session.
+    pub uses: Vec<Use>,
 }
 
 impl Options {
@@ -60,7 +77,7 @@ pub fn parse(args: impl IntoIterator<Item = String>) -> Result<Asked, String> {
     let mut args = args.into_iter();
     while let Some(arg) = args.next() {
         let (name, with) = arg.split_once('=').map_or((arg.as_str(), None), |(n, v)| (n, Some(v.to_string())));
-        if with.is_some() && matches!(name, "--trace" | "--help") {
+        if with.is_some() && matches!(name, "--trace" | "--help" | "--quiesce") {
             return Err(format!("{name} takes no value"));
         }
         let mut value = || with.clone().or_else(|| args.next()).ok_or_else(|| format!("{name} needs a value"));
@@ -72,13 +89,16 @@ pub fn parse(args: impl IntoIterator<Item = String>) -> Result<Asked, String> {
             "--status" => options.commands.push(status(&value()?)?),
             "--timeout" => options.commands.push((opcode(name, &value()?)?, Behaviour { polls: NEVER, status: 0 })),
             "--picture" => options.picture = Some(picture(value()?)?),
-            _ => return Err(format!("no such option: {arg}")),
+            _ => match Use::parse(name, &mut value)? {
+                Some(it) => options.uses.push(it),
+                None => return Err(format!("no such option: {arg}")),
+            },
         }
     }
     Ok(Asked::Session(options))
 }
 
-fn number(option: &str, text: &str) -> Result<u64, String> {
+pub fn number(option: &str, text: &str) -> Result<u64, String> {
     let parsed = match text.strip_prefix("0x") {
         Some(digits) if !digits.starts_with('+') => u64::from_str_radix(digits, 16).ok(),
         _ => text.parse().ok(),
@@ -102,7 +122,7 @@ fn status(text: &str) -> Result<(u16, Behaviour), String> {
     Ok((opcode("--status", op)?, Behaviour { polls: 1, status }))
 }
 
-fn opcode(option: &str, text: &str) -> Result<u16, String> {
+pub fn opcode(option: &str, text: &str) -> Result<u16, String> {
     if let Some((op, _)) = COMMANDS.iter().find(|(_, name)| name.eq_ignore_ascii_case(text)) {
         return Ok(*op);
     }

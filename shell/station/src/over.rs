@@ -12,6 +12,8 @@ pub struct Over<'a, B> {
     mask: u64,
     /// The commands posted whose end was not seen: fences to the device, without those from it.
     pub unseen: i64,
+    /// All fences.
+    pub fences: u64,
 }
 
 impl<'a, B: Bus> Over<'a, B> {
@@ -20,7 +22,7 @@ impl<'a, B: Bus> Over<'a, B> {
     }
 
     pub fn masked(bus: &'a mut B, mask: u64) -> Over<'a, B> {
-        Over { bus, mask, unseen: 0 }
+        Over { bus, mask, unseen: 0, fences: 0 }
     }
 
     fn handle(&self, handle: u64) -> Handle {
@@ -125,6 +127,7 @@ impl<B: Bus> session::Bus for Over<'_, B> {
 
     #[inline(never)]
     fn fence(&mut self, fence: Fence<'_>) {
+        self.fences += 1;
         match fence {
             Fence::ToDevice { inbox, inbox_pages, outbox, outbox_pages } => {
                 self.unseen += 1;

@@ -2,14 +2,24 @@
 
 use std::io::{self, Write};
 
-use session::{Books, Buffer, Outcome, Port, Range, Refused, Setup, Uar};
+use session::{Books, Buffer, Mailbox, Outcome, Port, Range, Refused, Setup, Uar};
+use world::trace::hex;
 use world::Holdings;
 
 use crate::follow::{Command, End};
+use crate::uses::Use;
 use crate::words;
 
-pub fn head(out: &mut impl Write, call: &str) -> io::Result<()> {
-    writeln!(out, "\n{call}\n{:>5}  {:<14}  {:>10}  {:>8}  status", "", "command", "modifier", "µs")
+/// So much of a reply is shown.
+const REPLY: usize = 16;
+
+/// What stands above a call, and above its commands where it has any.
+pub fn head(out: &mut impl Write, call: &str, commands: bool) -> io::Result<()> {
+    writeln!(out, "\n{call}")?;
+    if commands {
+        writeln!(out, "{:>5}  {:<14}  {:>10}  {:>8}  status", "", "command", "modifier", "µs")?;
+    }
+    Ok(())
 }
 
 pub fn command(out: &mut impl Write, number: u64, c: &Command) -> io::Result<()> {
@@ -35,6 +45,36 @@ pub fn result(out: &mut impl Write, outcome: Result<Outcome, Refused>) -> io::Re
         }
         Ok(Outcome::Closed(c)) => writeln!(out, "\nclosed: {}", words::closing(c)),
         other => writeln!(out, "\nresult: {other:?}, which no call should end with"),
+    }
+}
+
+/// What a call on the open session came to, with so many undo records left.
+pub fn used(
+    out: &mut impl Write,
+    it: &Use,
+    outcome: Result<Outcome, Refused>,
+    undo: usize,
+    outbox: &Mailbox,
+) -> io::Result<()> {
+    let records = if undo == 1 { "record is" } else { "records are" };
+    match (outcome, it) {
+        (Err(r), _) => {
+            let (number, why) = words::refused(r);
+            writeln!(out, "result: not taken, {number}: {why}")
+        }
+        (Ok(Outcome::CallFailed(r)), _) => writeln!(out, "result: failed, {}: {}", r.number(), words::refusal(r)),
+        (Ok(Outcome::Lent(Buffer { handle, address, pages })), _) => {
+            writeln!(out, "result: lent h{handle}, {} at {address:x}", words::pages(pages))
+        }
+        (Ok(Outcome::Done { immediate, us }), Use::Imm(..) | Use::InImm(..)) => {
+            writeln!(out, "result: good, immediate {immediate:#x}, {us} µs")
+        }
+        (Ok(Outcome::Done { us, .. }), Use::WithOut(_) | Use::InOut(..)) => {
+            writeln!(out, "result: good, the reply begins with {}, {us} µs", hex(&outbox[..REPLY]))
+        }
+        (Ok(Outcome::Done { us, .. }), _) => writeln!(out, "result: good, {us} µs"),
+        (Ok(_), Use::Quiesce) => writeln!(out, "result: quiesced, {undo} {records} on the undo list"),
+        (Ok(_), _) => writeln!(out, "result: good, {undo} {records} on the undo list"),
     }
 }
 

@@ -3,7 +3,8 @@
 use std::fs;
 use std::io::{self, Write};
 
-use session::{Closing, Outcome, Question, Refused, Session, UndoList};
+use session::abi::UNDO_RECORDS;
+use session::{Call, Closing, Outcome, Question, Refused, Session, Undo, UndoList};
 use world::plan::Fault;
 use world::traced::Traced;
 use world::World;
@@ -16,18 +17,17 @@ use crate::over::Over;
 use crate::picture;
 use crate::progress::Progress;
 use crate::report;
+use crate::uses::Use;
 use crate::words;
 
 /// The room for a resource list.
 const LIST: usize = 64;
 
-type Begin = fn(&mut Session, &mut UndoList) -> Result<Question, Refused>;
-
-struct Station<W> {
+struct Station<'a, W> {
     out: W,
     bus: Traced<World>,
     session: Box<Session>,
-    undo: Box<UndoList>,
+    undo: UndoList<'a>,
     calls: Calls,
     follow: Follow,
     progress: Progress,
@@ -35,15 +35,15 @@ struct Station<W> {
     sent: Vec<u16>,
 }
 
-impl<W: Write> Station<W> {
-    fn new(options: &Options, out: W) -> Station<W> {
+impl<'a, W: Write> Station<'a, W> {
+    fn new(options: &Options, records: &'a mut [Undo], out: W) -> Station<'a, W> {
         let plan = card::plan(options);
         let planned = plan.faults.iter().map(|f| f.call).collect();
         Station {
             out,
             bus: Traced::new(World::new(plan)),
             session: Box::default(),
-            undo: Box::default(),
+            undo: UndoList::new(records),
             calls: Calls::new(options.trace, planned),
             follow: Follow::default(),
             progress: Progress::new(),
@@ -82,12 +82,42 @@ impl<W: Write> Station<W> {
     }
 
     /// One call from its beginning to its result.
-    fn call(&mut self, name: &str, begin: Begin) -> io::Result<Result<Outcome, Refused>> {
-        report::head(&mut self.out, name)?;
-        let first = begin(&mut self.session, &mut self.undo);
+    fn call(&mut self, name: &str, call: Call) -> io::Result<Result<Outcome, Refused>> {
+        report::head(&mut self.out, name, true)?;
+        let first = self.session.begin(call, &mut self.undo);
         let outcome = self.drive(first)?;
         report::result(&mut self.out, outcome)?;
         Ok(outcome)
+    }
+
+    /// One call on the open session, or a record for the undo list; whether it was good.
+    fn used(&mut self, it: &Use) -> io::Result<bool> {
+        let outcome = match (it.call(), it) {
+            (Some(call), _) => {
+                let first = self.session.begin(call, &mut self.undo);
+                let asks = first.is_ok_and(|q| q != Question::Finished);
+                report::head(&mut self.out, &it.name(), asks && !matches!(it, Use::Lend(_)))?;
+                self.drive(first)?
+            }
+            (None, Use::Push(record)) => {
+                report::head(&mut self.out, &it.name(), false)?;
+                self.undo.push(*record).map(|()| Outcome::Open)
+            }
+            (None, _) => panic!("a use that is no call"),
+        };
+        report::used(&mut self.out, it, outcome, self.undo.len(), self.session.outbox())?;
+        Ok(outcome.is_ok_and(|o| !matches!(o, Outcome::CallFailed(_))))
+    }
+
+    /// Everything that is called on the open session, and the close; whether all went well.
+    fn use_and_close(&mut self, options: &Options) -> io::Result<bool> {
+        let mut good = true;
+        for it in &options.uses {
+            good &= self.used(it)?;
+        }
+        let closed = self.call("closing", Call::Close)?;
+        let quiesced = options.uses.contains(&Use::Quiesce);
+        Ok(good && closed == Ok(Outcome::Closed(if quiesced { Closing::Reset } else { Closing::Clean })))
     }
 
     /// The opened session: what it has found out, and its picture.
@@ -120,21 +150,22 @@ impl<W: Write> Station<W> {
     }
 }
 
-/// Opens and closes; true if both went well.
+/// Opens, uses and closes; true if all went well.
 pub fn run(options: &Options, out: impl Write) -> io::Result<bool> {
-    let mut station = Station::new(options, out);
+    let mut records = [Undo::default(); UNDO_RECORDS];
+    let mut station = Station::new(options, &mut records, out);
     let card = options.seed.map_or("that does as it is told".into(), |s| format!("of seed {s}"));
     writeln!(station.out, "a card {card}")?;
-    let opened = station.call("opening", Session::begin_open)? == Ok(Outcome::Open);
-    let (mut svg, mut clean) = (None, false);
+    let opened = station.call("opening", Call::Open)? == Ok(Outcome::Open);
+    let (mut svg, mut good) = (None, false);
     if opened {
         svg = station.tell(options.picture.as_ref())?;
-        clean = station.call("closing", Session::begin_close)? == Ok(Outcome::Closed(Closing::Clean));
+        good = station.use_and_close(options)?;
     }
     station.end(options)?;
     station.out.flush()?;
     draw(options.picture.as_ref(), svg)?;
-    Ok(opened && clean && station.bus.bus.misuse().is_empty())
+    Ok(good && station.bus.bus.misuse().is_empty())
 }
 
 /// Writes the picture of an open session to its file.

@@ -1,10 +1,10 @@
 //! What the numbers of the card and of a session mean.
 
-use session::{Closing, How, Refusal};
+use session::{Closing, How, Refusal, Refused};
 use world::registers::*;
 
-/// The commands of an opening and a close, by opcode.
-pub const COMMANDS: [(u16, &str); 16] = [
+/// The commands of an opening and a close, and those of clients, by opcode.
+pub const COMMANDS: [(u16, &str); 37] = [
     (QUERY_DEV_CAP, "QUERY_DEV_CAP"),
     (QUERY_FW, "QUERY_FW"),
     (QUERY_ADAPTER, "QUERY_ADAPTER"),
@@ -21,6 +21,27 @@ pub const COMMANDS: [(u16, &str); 16] = [
     (SET_ICM_SIZE, "SET_ICM_SIZE"),
     (UNMAP_FA, "UNMAP_FA"),
     (MAP_FA, "MAP_FA"),
+    (0x009, "INIT_PORT"),
+    (0x00a, "CLOSE_PORT"),
+    (0x00c, "SET_PORT"),
+    (0x00d, "SW2HW_MPT"),
+    (0x00f, "HW2SW_MPT"),
+    (0x012, "MAP_EQ"),
+    (0x013, "SW2HW_EQ"),
+    (0x014, "HW2SW_EQ"),
+    (0x016, "SW2HW_CQ"),
+    (0x017, "HW2SW_CQ"),
+    (0x019, "RST2INIT_QP"),
+    (0x01a, "INIT2RTR_QP"),
+    (0x01b, "RTR2RTS_QP"),
+    (0x021, "2RST_QP"),
+    (0x023, "CONF_SPECIAL_QP"),
+    (0x024, "MAD_IFC"),
+    (0x025, "READ_MCG"),
+    (0x026, "WRITE_MCG"),
+    (0x027, "MGID_HASH"),
+    (0x03b, "ACCESS_REG"),
+    (0x048, "SET_MCAST_FLTR"),
 ];
 
 /// A command's name, or its opcode where it has none here.
@@ -55,7 +76,7 @@ pub fn status(status: u8) -> &'static str {
     }
 }
 
-/// Why an opening failed.
+/// Why an opening or a call failed.
 pub fn refusal(r: Refusal) -> String {
     match r {
         Refusal::Attributes => "the PCI attributes could not be read or enabled".into(),
@@ -78,6 +99,20 @@ pub fn refusal(r: Refusal) -> String {
         Refusal::Entry(i) => format!("the entry size of table {} is no power of two", table(i)),
         Refusal::Total(v) => format!("the tables need {v:#x} bytes, more than the card has"),
         Refusal::Address => "a device address is no page multiple, or a size passes 2^64".into(),
+        Refusal::Reserved => "an undo record has an opcode that no client may send".into(),
+        Refusal::Undo => "an undo command failed, or the session was broken and a record was wanted".into(),
+    }
+}
+
+/// Why a call was not taken: document 01's number, and what it means.
+pub fn refused(r: Refused) -> (u32, &'static str) {
+    match r {
+        Refused::Bytes => (18, "so many bytes end above 2^64"),
+        Refused::Full => (19, "no more buffers can be lent, or records be kept"),
+        Refused::Wrong => (20, "a call at the wrong time"),
+        Refused::Short => (21, "an input of more than 4096 bytes, or no room"),
+        Refused::Reserved => (22, "an opcode that bring-up or closing sends"),
+        Refused::Unknown => (0, "a number that no call gives"),
     }
 }
 
@@ -110,6 +145,14 @@ pub fn pages(n: u64) -> String {
     match n {
         1 => "1 page".into(),
         n => format!("{n} pages"),
+    }
+}
+
+/// So many bytes.
+pub fn bytes(n: usize) -> String {
+    match n {
+        1 => "1 byte".into(),
+        n => format!("{n} bytes"),
     }
 }
 

@@ -42,7 +42,7 @@ fn a_good_session() {
 
 #[test]
 fn bad_options_are_one_line_and_2() {
-    let bad: [&[&str]; 22] = [
+    let bad: [&[&str]; 36] = [
         &["--nope"],
         &["extra"],
         &["--seed"],
@@ -65,6 +65,20 @@ fn bad_options_are_one_line_and_2() {
         &["--trace=1"],
         &["--picture"],
         &["--picture", ""],
+        &["--imm"],
+        &["--imm", ""],
+        &["--imm", "CLOSE_PORT,x"],
+        &["--imm", "CLOSE_PORT,0x100000000"],
+        &["--imm", "CLOSE_PORT/256"],
+        &["--imm", "CLOSE_PORT,1,2,3"],
+        &["--with-in", "SET_PORT,1,abc"],
+        &["--with-in", "SET_PORT,1,zz"],
+        &["--with-out", "QUERY_PORT,1,00"],
+        &["--in-out", "NOPE"],
+        &["--lend", "-1"],
+        &["--undo"],
+        &["--undo-to", "one"],
+        &["--quiesce=1"],
     ];
     for args in bad {
         let (code, out, err) = ran(args);
@@ -78,6 +92,8 @@ fn help_is_no_error() {
     let (code, out, err) = ran(&["--help", "--nope"]);
     assert_eq!((code, err.as_str()), (0, ""));
     assert!(["--seed", "--fail", "--status", "--timeout", "--trace", "--picture"].iter().all(|o| out.contains(o)));
+    assert!(["--imm", "--with-in", "--with-out", "--in-imm", "--in-out"].iter().all(|o| out.contains(o)));
+    assert!(["--lend", "--undo", "--undo-to", "--quiesce"].iter().all(|o| out.contains(o)));
 }
 
 #[test]
@@ -151,6 +167,89 @@ fn seeds_end_in_every_way_and_tell_the_same_twice() {
     }
     assert!(statuses[0] > 5 && statuses[1] > 5 && statuses[2] == 0, "{statuses:?}");
     assert_eq!(ran(&["--seed", "7"]), ran(&["--seed", "0x7"]));
+}
+
+/// The calls on the open session.
+#[cfg(not(hca_old))]
+mod uses {
+    use super::says;
+
+    /// Every form of a command, with its result.
+    #[test]
+    fn client_commands() {
+        let args = ["--imm", "CLOSE_PORT,1", "--with-in=SET_PORT/1,2,00ff", "--with-out", "QUERY_DEV_CAP"];
+        let more = ["--in-imm", "MGID_HASH", "--in-out", "0x24,1,0102"];
+        let what = [
+            "\nclient command CLOSE_PORT, in parameter 0x0\n",
+            "   25  CLOSE_PORT               1         3  0x00 good\nresult: good, immediate 0x",
+            "   26  SET_PORT                 2         3  0x00 good, opcode modifier 1\nresult: good, 3 µs\n",
+            "client command QUERY_DEV_CAP, an outbox\n",
+            "result: good, the reply begins with 00000000000000000000000000000000, 15 µs\n",
+            "client command MGID_HASH, an inbox of 0 bytes, immediate out\n",
+            "   29  MAD_IFC                  1         3  0x00 good\nresult: good, the reply begins with ",
+            "closed: clean",
+        ];
+        says(&[&args[..], &more].concat(), 0, &what);
+    }
+
+    #[test]
+    fn commands_that_fail() {
+        let status = "result: failed, 6: a command ended with status 0x03 (bad parameter) after 1 µs\n";
+        says(&["--imm", "INIT_PORT", "--status", "INIT_PORT=3"], 1, &[status, "closed: clean"]);
+        let busy = "result: failed, 8: the command register was busy before a command\n";
+        let args = ["--imm", "INIT_PORT", "--imm", "CLOSE_PORT", "--timeout", "INIT_PORT"];
+        says(&args, 1, &["result: failed, 7: ", busy, "closed: by a reset of the card\n", "held: nothing"]);
+        says(&["--imm", "MAP_FA"], 1, &["result: not taken, 22: ", "closed: clean"]);
+        let long = format!("SET_PORT,0,{}", "00".repeat(4097));
+        says(&["--with-in", &long], 1, &["an inbox of 4097 bytes\nresult: not taken, 21: ", "closed: clean"]);
+    }
+
+    #[test]
+    fn lending() {
+        let what =
+            ["\nlending 0 bytes\nresult: lent h19, 1 page at ", "\nresult: lent h20, 2 pages at ", "held: nothing"];
+        says(&["--lend", "0", "--lend", "4097"], 0, &what);
+        says(&["--lend", "0x10000000000"], 1, &["result: failed, 5: ", "closed: clean"]);
+        says(&["--lend", "0xfffffffffffff001"], 1, &["result: not taken, 18: ", "closed: clean"]);
+        let many: Vec<&str> = ["--lend", "1"].into_iter().cycle().take(130).collect();
+        says(&many, 1, &["result: lent h82, ", "result: not taken, 19: ", "held: nothing"]);
+    }
+
+    /// Newest first, to the mark, and the rest by the close.
+    #[test]
+    fn undoing() {
+        let args = ["--undo", "HW2SW_EQ,7", "--undo", "HW2SW_CQ/2,3,0x10", "--undo-to", "1"];
+        let what = [
+            "undo record HW2SW_CQ, modifier 3, 0x10\nresult: good, 2 records are on the undo list\n",
+            "   25  HW2SW_CQ                 3         3  0x00 good, opcode modifier 2\n",
+            "result: good, 1 record is on the undo list\n",
+            "   26  HW2SW_EQ                 7         3  0x00 good\n",
+            "closed: clean",
+        ];
+        says(&args, 0, &what);
+        let failed = ["result: failed, 23: ", "closed: by a reset"];
+        says(&[&args[..], &["--status", "HW2SW_CQ=1"]].concat(), 1, &failed);
+        says(&["--undo", "RUN_FW"], 1, &["result: not taken, 22: ", "closed: clean"]);
+    }
+
+    /// The close behind it resets, and that is as it must be.
+    #[test]
+    fn quiescing() {
+        let what = [
+            "\nquiescing\n",
+            "   41  UNMAP_FA ",
+            "result: quiesced, 0 records are on the undo list\n",
+            "held: nothing",
+        ];
+        let out = says(&["--quiesce"], 0, &what);
+        assert!(out.contains("closed: by a reset of the card\n"), "{out}");
+        says(&["--quiesce", "--lend", "1", "--imm", "INIT_PORT", "--quiesce"], 0, &["result: lent h19", "immediate"]);
+        says(
+            &["--quiesce", "--undo", "HW2SW_EQ", "--undo-to", "0"],
+            1,
+            &["result: failed, 23: ", "closed: by a reset"],
+        );
+    }
 }
 
 /// The tags are balanced, and every attribute is quoted.

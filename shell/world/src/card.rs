@@ -2,7 +2,7 @@
 
 use crate::held::{blocks, Block, Held};
 use crate::host::{Host, Span};
-use crate::plan::{CardPlan, Replies, NEVER};
+use crate::plan::{Behaviour, CardPlan, Replies, Which, NEVER};
 use crate::prng::Prng;
 use crate::registers::*;
 
@@ -211,11 +211,11 @@ impl Card {
             CLOSE_HCA => self.held.open = false,
             RUN_FW | MOD_STAT_CFG => {}
             SET_ICM_SIZE => self.set_icm_size(replies.aux_pages),
-            QUERY_FW => host.write_at(c.out_param, &replies.fw),
-            QUERY_DEV_CAP => host.write_at(c.out_param, &replies.cap),
-            QUERY_PORT => host.write_at(c.out_param, &replies.ports[usize::from(c.in_mod == 2)]),
-            QUERY_FUNC => host.write_at(c.out_param, &replies.func),
-            QUERY_ADAPTER => host.write_at(c.out_param, &replies.adapter),
+            QUERY_FW => host.reply_at(c.out_param, &replies.fw),
+            QUERY_DEV_CAP => host.reply_at(c.out_param, &replies.cap),
+            QUERY_PORT => host.reply_at(c.out_param, &replies.ports[usize::from(c.in_mod == 2)]),
+            QUERY_FUNC => host.reply_at(c.out_param, &replies.func),
+            QUERY_ADAPTER => host.reply_at(c.out_param, &replies.adapter),
             _ => self.client(c, host),
         }
     }
@@ -234,7 +234,7 @@ impl Card {
             self.immediate(reply.next_u64());
         } else {
             let length = reply.below(4097) as usize;
-            host.write_at(c.out_param, &reply.bytes(length));
+            host.reply_at(c.out_param, &reply.bytes(length));
         }
     }
 
@@ -279,6 +279,13 @@ impl Card {
 
     pub fn held(&self) -> &Held {
         &self.held
+    }
+
+    /// How commands end, counted from here.
+    pub fn schedule(&mut self, commands: Vec<(u64, Behaviour)>) {
+        let first = self.commands;
+        let numbered = commands.into_iter().map(|(n, b)| (Which::Number(first + n), b));
+        self.plan.commands.splice(0..0, numbered);
     }
 
     pub fn replies(&mut self) -> &mut Replies {

@@ -2,7 +2,7 @@
 
 use crate::bus::{Allocation, Handle, Mapping};
 use crate::memory::Pages;
-use crate::plan::{Addresses, HostPlan};
+use crate::plan::{Addresses, HostPlan, OddMap};
 use crate::prng::Prng;
 use crate::PAGE;
 
@@ -132,11 +132,23 @@ impl Host {
         }
     }
 
+    /// Allocations and maps that are answered otherwise, counted from here.
+    pub fn schedule(&mut self, null: Vec<u64>, odd_maps: Vec<(u64, OddMap)>) {
+        let (allocations, maps) = (self.allocations, self.maps);
+        self.plan.null.extend(null.into_iter().map(|n| allocations + n));
+        self.plan.odd_maps.splice(0..0, odd_maps.into_iter().map(|(n, o)| (maps + n, o)));
+    }
+
+    /// The mailbox of that number, from 0, if it is mapped at this address.
+    fn mailbox_at(&self, n: usize, address: u64) -> Option<&Pages> {
+        let mailbox = self.buffers.iter().filter(|b| b.role == Role::Mailbox).nth(n)?;
+        let there = mailbox.mapped && mailbox.span.is_some_and(|s| s.start == address);
+        there.then_some(&mailbox.pages)
+    }
+
     /// The first mailbox, if it is mapped at this address.
     pub fn inbox_at(&self, address: u64) -> Option<Vec<u8>> {
-        let inbox = self.buffers.iter().find(|b| b.role == Role::Mailbox)?;
-        let there = inbox.mapped && inbox.span.is_some_and(|s| s.start == address);
-        there.then(|| inbox.pages.read(0, PAGE))
+        self.mailbox_at(0, address).map(|inbox| inbox.read(0, PAGE))
     }
 
     /// Up to a page at a device address, if it is mapped.
@@ -145,10 +157,10 @@ impl Host {
         Some(pages.read(offset, PAGE))
     }
 
-    /// The card writes at a device address; nothing happens where none is mapped.
-    pub fn write_at(&self, address: u64, bytes: &[u8]) {
-        if let Some((pages, offset)) = self.mapped_at(address) {
-            pages.write(offset, bytes);
+    /// The card writes a reply: to the second mailbox if that is what the address names, else nowhere.
+    pub fn reply_at(&self, address: u64, bytes: &[u8]) {
+        if let Some(outbox) = self.mailbox_at(1, address) {
+            outbox.write(0, bytes);
         }
     }
 

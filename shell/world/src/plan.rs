@@ -26,6 +26,16 @@ pub struct Fault {
     pub taken: bool,
 }
 
+/// What is decided from a moment on. Commands, bus calls, allocations and maps are counted from there, from 0.
+#[derive(Clone, Default, Debug)]
+pub struct Later {
+    /// Commands that do not end as `CardPlan::usual`, by their number among those taken.
+    pub commands: Vec<(u64, Behaviour)>,
+    pub faults: Vec<Fault>,
+    pub null: Vec<u64>,
+    pub odd_maps: Vec<(u64, OddMap)>,
+}
+
 #[derive(Clone, Debug)]
 pub struct AttributePlan {
     pub original: u64,
@@ -231,6 +241,23 @@ impl Plan {
     /// One of the plans that a seed decides, inside the domain of document 01.
     pub fn seeded(seed: u64) -> Plan {
         seeded::plan(seed)
+    }
+
+    /// The same card and host on a good day: an opening fails by a reply that is refused, and by nothing else.
+    pub fn calm(mut self) -> Plan {
+        self.faults.clear();
+        self.host.limit = self.host.limit.max(4096);
+        self.host.null.clear();
+        self.host.odd_maps.clear();
+        self.card.owner = 0;
+        self.card.start.polls = 0;
+        self.card.commands.clear();
+        self.card.replies.aux_pages %= 4096;
+        // The first reset is the opening's.
+        for times in [&mut self.card.semaphore, &mut self.card.absent] {
+            times.first_mut().into_iter().for_each(|n| *n %= 16);
+        }
+        self
     }
 }
 

@@ -40,6 +40,9 @@ pub const SET_ICM_SIZE: u16 = 0xffd;
 pub const UNMAP_FA: u16 = 0xffe;
 pub const MAP_FA: u16 = 0xfff;
 
+/// The queries of bring-up, which a client may send too.
+pub const QUERIES: [u16; 5] = [QUERY_DEV_CAP, QUERY_FW, QUERY_ADAPTER, QUERY_PORT, QUERY_FUNC];
+
 /// What bring-up and closing send, queries excepted: no client may send it.
 pub const RESERVED: [u16; 11] = [
     INIT_HCA,

@@ -35,7 +35,7 @@ fn host(r: &mut Prng) -> HostPlan {
 }
 
 /// A good map of another size.
-fn odd_map(r: &mut Prng) -> OddMap {
+pub fn odd_map(r: &mut Prng) -> OddMap {
     OddMap { address: None, bytes: Some(r.pick(&[0, 1, 0x800, 0x1001, 0x3000, 1 << 40])) }
 }
 

@@ -6,7 +6,7 @@ use crate::config::Config;
 use crate::held::Held;
 use crate::host::{Host, Role};
 use crate::memory::Pages;
-use crate::plan::{AttributePlan, Fault, Plan, Replies, ResourcePlan};
+use crate::plan::{AttributePlan, Fault, Later, Plan, Replies, ResourcePlan};
 use crate::registers::{BAR_DCS, RESET};
 use crate::{resources, PAGE};
 
@@ -99,6 +99,15 @@ impl World {
     /// The replies from here on.
     pub fn replies(&mut self) -> &mut Replies {
         self.card.replies()
+    }
+
+    /// What is to come from here on; it goes before all that the plan says.
+    pub fn schedule(&mut self, later: Later) {
+        let Later { commands, faults, null, odd_maps } = later;
+        let calls = self.calls;
+        self.faults.splice(0..0, faults.into_iter().map(|f| Fault { call: calls + f.call, ..f }));
+        self.card.schedule(commands);
+        self.host.schedule(null, odd_maps);
     }
 
     /// One bus call: it has its effect unless its fault says "not taken",

@@ -1,7 +1,7 @@
 //! The environment by itself: card rules, faults, host, configuration space.
 
 use world::bus::{Allocation, AttributeCall, Bus, Handle, Resource};
-use world::plan::{Addresses, Behaviour, Fault, Plan, Which, NEVER};
+use world::plan::{Addresses, Behaviour, Fault, Later, OddMap, Plan, Which, NEVER};
 use world::registers::*;
 use world::{World, PAGE};
 
@@ -243,6 +243,48 @@ fn attributes_are_set_and_enabled() {
     assert_eq!(w.attributes(AttributeCall::Get, 0), Some(0x607));
     w.attributes(AttributeCall::Set, 7);
     assert_eq!(w.attributes(AttributeCall::Get, 0), Some(7));
+}
+
+/// A reply goes to the outbox and nowhere else, though another address is mapped or is named by an immediate.
+#[test]
+fn replies_go_to_the_outbox_alone() {
+    let mut w = world(|p| {
+        p.host.addresses = Addresses::Rising { from: 0 };
+        p.card.replies.fw = vec![0xee; 64];
+    });
+    let ((inbox, _), (outbox, at)) = (buffer(&mut w, 1), buffer(&mut w, 1));
+    let first = |w: &World, handle| w.pages(handle).read(0, 1);
+    post(&mut w, QUERY_FW, 0, 0, 0);
+    assert_eq!([first(&w, inbox), first(&w, outbox)], [[0], [0]]);
+    post(&mut w, QUERY_FW, 0, 0, at);
+    assert_eq!([first(&w, inbox), first(&w, outbox)], [[0], [0xee]]);
+    let (third, at) = buffer(&mut w, 1);
+    post(&mut w, QUERY_FW, 0, 0, at);
+    assert_eq!(first(&w, third), [0]);
+}
+
+#[test]
+fn what_is_decided_later_is_counted_from_there() {
+    let mut w = world(|p| p.card.commands = vec![(Which::Opcode(RUN_FW), Behaviour::status(1))]);
+    buffer(&mut w, 1);
+    post(&mut w, QUERY_FW, 0, 0, 0);
+    w.schedule(Later {
+        commands: vec![(1, Behaviour::status(9))],
+        faults: vec![Fault { call: 14, taken: false }],
+        null: vec![1],
+        odd_maps: vec![(0, OddMap { address: None, bytes: Some(7) })],
+    });
+    let status_of = |w: &mut World| status(w) >> STATUS_SHIFT;
+    post(&mut w, RUN_FW, 0, 0, 0);
+    post(&mut w, RUN_FW, 0, 0, 0);
+    assert_eq!(w.register_read(BAR_DCS, GO_WRITE), None, "call 14");
+    assert_eq!(status_of(&mut w), 9);
+    post(&mut w, RUN_FW, 0, 0, 0);
+    assert_eq!(status_of(&mut w), 1);
+    assert_eq!(w.allocate(1), Allocation::Pages(Handle(2)));
+    assert_eq!(w.map(Handle(2), PAGE).map(|m| m.bytes), Some(7));
+    assert_eq!(w.allocate(1), Allocation::Null);
+    assert_eq!(buffer(&mut w, 1).0, Handle(3));
 }
 
 #[test]

@@ -76,7 +76,7 @@ fn count(dump: &Path) -> Result<Count, String> {
     let annotated = Command::new("callgrind_annotate").args(["--inclusive=yes", "--threshold=100"]).arg(dump).output();
     let text = String::from_utf8_lossy(&annotated.map_err(|e| e.to_string())?.stdout).into_owned();
     let of = |fits: &dyn Fn(&str) -> bool| -> u64 { text.lines().filter(|l| fits(l)).filter_map(number).sum() };
-    let library = |l: &str| ["hca_open", "hca_answer", "hca_close"].iter().any(|f| has(l, f));
+    let library = |l: &str| ["hca_call", "hca_answer"].iter().any(|f| has(l, f));
     let memset = |l: &str| l.contains(":memset") || l.contains("__memset_") || l.contains(":__memset");
     Ok(Count { all: of(&|l| l.contains("PROGRAM TOTALS")), library: of(&library), memset: of(&memset) })
 }

@@ -7,7 +7,7 @@ use std::hint::black_box;
 use compare::sessions::cases;
 use compare::sessions::over::Over;
 use session::abi;
-use session::ffi::{self, Lent, Reader};
+use session::ffi::{self, Called, Lent, Reader};
 use session::{Question, Session, Undo, UndoList};
 use world::World;
 
@@ -50,10 +50,9 @@ impl Most {
 fn call(s: &Session, undo: &UndoList, call: &mut dyn FnMut(Lent) -> u32) -> usize {
     let (mut state, mut inbox, mut outbox) = (s.state().to_vec(), s.inbox().to_vec(), s.outbox().to_vec());
     let mut out = [0; abi::TURN];
-    let top = undo.records().last().copied().unwrap_or_default();
     let mut f = || {
         let (state, inbox, outbox, out) = (&mut state[..], &mut inbox[..], &mut outbox[..], &mut out[..]);
-        black_box(call(Lent { state, inbox, outbox, count: undo.len(), top, out }));
+        black_box(call(Lent { state, inbox, outbox, undo: undo.records(), count: undo.len(), out }));
     };
     needed(&mut f)
 }
@@ -99,13 +98,14 @@ fn measured() -> Most {
     most.note("hca_fresh", fresh);
     for case in cases::variants() {
         let mut bus = World::new(case.plan.clone());
-        let (mut s, mut undo) = (Box::new(Session::new()), Box::new(UndoList::new()));
-        most.note("hca_open", call(&s, &undo, &mut ffi::open));
+        let mut records = [Undo::default()];
+        let (mut s, mut undo) = (Box::new(Session::new()), UndoList::new(&mut records));
+        most.note("hca_call, open", call(&s, &undo, &mut |l| ffi::call(l, Called::OPEN)));
         let first = s.begin_open(&mut undo).expect("a fresh session");
         answers(&mut most, &mut s, &mut bus, &mut undo, first);
-        assert!(undo.push(Undo { op: 0x20, ..Undo::default() }));
+        undo.push(Undo { op: 0x20, ..Undo::default() }).expect("room");
         readers(&mut most, &s);
-        most.note("hca_close", call(&s, &undo, &mut ffi::close));
+        most.note("hca_call, close", call(&s, &undo, &mut |l| ffi::call(l, Called::CLOSE)));
         let first = s.begin_close(&mut undo).expect("an open session");
         answers(&mut most, &mut s, &mut bus, &mut undo, first);
         readers(&mut most, &s);

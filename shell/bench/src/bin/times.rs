@@ -27,7 +27,7 @@ fn rust(plan: &Plan) -> [Duration; 2] {
 
 fn ours(plan: &Plan) -> [Duration; 2] {
     let mut world = World::new(plan.clone());
-    let (mut session, mut undo) = (Box::new(Session::new()), Box::new(UndoList::new()));
+    let (mut session, mut undo) = (Box::new(Session::new()), UndoList::new(&mut []));
     let mut over = Over::new(&mut world);
     let start = Instant::now();
     let good = session.open(&mut over, &mut undo) == Ok(session::Outcome::Open);

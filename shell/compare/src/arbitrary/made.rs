@@ -3,10 +3,11 @@
 use session::abi::{self, Words};
 use session::{Question, Session, Undo};
 use world::prng::Prng;
+use world::registers::RESERVED;
 use world::PAGE;
 
-use super::piece::Piece;
-use super::pool::{Bytes, Step, Stop};
+use super::piece::{Piece, Records};
+use super::pool::{Arguments, Bytes, Step, Stop};
 use super::{Function, FUNCTIONS};
 
 /// Where the state's bytes are from.
@@ -29,14 +30,51 @@ pub struct Made {
     pub state: Piece,
     pub inbox: Piece,
     pub outbox: Piece,
+    /// What an answer is lent, or a call.
     pub resource: Piece,
+    pub input: Piece,
     pub out: Piece,
+    pub undo: Records,
     pub count: usize,
-    pub top: Undo,
+    /// A call, or the record that is pushed: its kind and its numbers.
+    pub call: Arguments,
     /// An answer: its kind and two values.
     pub told: [u64; 3],
     /// The call is the wrapper's next one, or a reader, on the stop.
     pub wrappers: bool,
+}
+
+/// How slices are made: whether the lengths may be odd, whether there are guards, and what fills them.
+#[derive(Clone, Copy)]
+struct Way {
+    odd: bool,
+    guarded: bool,
+    fill: u8,
+}
+
+impl Way {
+    /// A slice that has mostly so many bytes.
+    fn piece(self, r: &mut Prng, from: &[u8], usual: usize) -> Piece {
+        let any = r.pick(&[0, 1, usual.saturating_sub(1), usual, usual + 1]);
+        Piece::new(from, if self.odd && r.one_in(3) { any } else { usual }, self.guarded, self.fill)
+    }
+
+    /// All of these bytes.
+    fn whole(self, from: &[u8]) -> Piece {
+        Piece::new(from, from.len(), self.guarded, self.fill)
+    }
+
+    /// Undo records, and how many are on the list.
+    fn list(self, r: &mut Prng) -> (Records, usize) {
+        let length: usize = if self.odd { r.pick(&[0, 1, 2, 255, 256, 257, 300]) } else { r.pick(&[1, 256]) };
+        let count = if self.odd {
+            r.pick(&[0, 1, 2, length, length.saturating_sub(1), length + 1, 255, 256, 257, 1 << 32, usize::MAX])
+        } else {
+            r.pick(&[0, 1, length])
+        };
+        let records: Vec<Undo> = (0..length).map(|_| undo(r)).collect();
+        (Piece::new(&records, length, self.guarded, undo(r)), count)
+    }
 }
 
 impl Made {
@@ -44,34 +82,30 @@ impl Made {
     pub fn new(r: &mut Prng, stop: &Stop, left: Option<Bytes>) -> Made {
         let (source, state) = state(r, stop, left.as_ref().map(|l| l.state.clone()));
         let own = source == Source::Stop && r.one_in(4);
-        let function = if own { own_function(r, stop) } else { function(r) };
-        let odd = !own && r.one_in(3);
-        let guarded = r.one_in(2);
-        let fill = r.pick(&[0xc3, 0x5a]);
-        let piece = |from: &[u8], usual: usize, r: &mut Prng| {
-            let any = r.pick(&[0, 1, usual.saturating_sub(1), usual, usual + 1]);
-            Piece::new(from, if odd && r.one_in(3) { any } else { usual }, guarded, fill)
-        };
+        let function = if own { own_function(r, stop) } else { function(r, stop) };
+        let way = Way { odd: !own && r.one_in(3), guarded: r.one_in(2), fill: r.pick(&[0xc3, 0x5a]) };
         let bytes = left.as_ref().unwrap_or(&stop.bytes);
         let inbox = mailbox(r, &bytes.inbox, own);
         let outbox = mailbox(r, &bytes.outbox, own);
-        let told = any_answer(r, stop);
-        let resource = resource(r);
+        let (resource, input) = (resource(r), input(r));
+        let (undo, count) = way.list(r);
         let mut made = Made {
             function,
             source,
-            state: piece(&state, abi::STATE, r),
-            inbox: piece(&inbox, abi::MAILBOX, r),
-            outbox: piece(&outbox, abi::MAILBOX, r),
-            out: piece(&[], function.out_bytes(), r),
-            resource: Piece::new(&resource, resource.len(), guarded, fill),
-            count: if odd { r.pick(&[0, 1, 255, 256, 257, 1 << 32, usize::MAX]) } else { r.pick(&[0, 1, 256]) },
-            top: undo(r),
-            told,
+            state: way.piece(r, &state, abi::STATE),
+            inbox: way.piece(r, &inbox, abi::MAILBOX),
+            outbox: way.piece(r, &outbox, abi::MAILBOX),
+            out: way.piece(r, &[], function.out_bytes()),
+            resource: way.whole(&resource),
+            input: way.whole(&input),
+            undo,
+            count,
+            call: any_call(r, count),
+            told: any_answer(r, stop),
             wrappers: own,
         };
         if own {
-            made.take_over(stop, guarded, fill);
+            made.take_over(stop, way);
         }
         made
     }
@@ -86,21 +120,35 @@ impl Made {
         self.source == Source::Fresh
     }
 
-    /// The wrapper's own numbers and list.
-    fn take_over(&mut self, stop: &Stop, guarded: bool, fill: u8) {
-        (self.count, self.top) = (stop.count, stop.top);
-        if let Some((Step::Answer { told, resource }, ..)) = &stop.next {
-            self.told = *told;
-            self.resource = Piece::new(resource, resource.len(), guarded, fill);
+    /// The wrapper's own numbers and lists.
+    fn take_over(&mut self, stop: &Stop, way: Way) {
+        self.undo = Piece::new(&stop.undo, abi::UNDO_RECORDS, way.guarded, Undo::default());
+        self.count = stop.undo.len();
+        match &stop.next {
+            Some((Step::Answer { told, resource }, ..)) => {
+                self.told = *told;
+                self.resource = way.whole(resource);
+            }
+            Some((Step::Call { call, input }, ..)) => {
+                self.call = call.clone();
+                self.input = way.whole(input);
+            }
+            None => {}
         }
+    }
+
+    /// The record that is pushed.
+    pub fn record(&self) -> Undo {
+        let Arguments { op, op_mod, in_mod, value, .. } = self.call;
+        Undo { op, op_mod, in_mod, in_param: value }
     }
 
     /// Whether everything else is as it was; what is not.
     pub fn untouched(&self, number: u32) -> Result<(), &'static str> {
         let taken = number == 0;
-        let reads = matches!(self.function, Function::Read(_));
-        let state = if taken && !reads { abi::STATE } else { 0 };
-        let mailbox = if taken && !reads && self.function != Function::Fresh { abi::MAILBOX } else { 0 };
+        let turns = taken && matches!(self.function, Function::Call | Function::Answer);
+        let state = if turns || taken && self.function == Function::Fresh { abi::STATE } else { 0 };
+        let mailbox = if turns { abi::MAILBOX } else { 0 };
         let out = if taken { self.function.out_bytes() } else { 0 };
         let kept = [
             (&self.state, state, "state"),
@@ -108,8 +156,23 @@ impl Made {
             (&self.outbox, mailbox, "outbox"),
             (&self.out, out, "out"),
             (&self.resource, 0, "resource"),
+            (&self.input, 0, "input"),
         ];
-        kept.iter().find(|(p, written, _)| !p.kept_but(*written)).map_or(Ok(()), |(_, _, what)| Err(*what))
+        kept.iter().find(|(p, written, _)| !p.kept_but(*written)).map_or(Ok(()), |(_, _, what)| Err(*what))?;
+        self.list_kept(taken)
+    }
+
+    /// The undo list is as it was, but for the record that was pushed.
+    fn list_kept(&self, taken: bool) -> Result<(), &'static str> {
+        if !taken || self.function != Function::PushUndo {
+            return if self.undo.kept_but(0) { Ok(()) } else { Err("undo") };
+        }
+        let there = self.undo.now().get(self.count) == Some(&self.record());
+        if there && self.undo.kept_but_from(self.count, 1) {
+            Ok(())
+        } else {
+            Err("undo, and not the record alone")
+        }
     }
 
     /// Holds a call that is the wrapper's to what it had behind it; what differs.
@@ -134,15 +197,17 @@ impl Made {
 
     /// What a call that was taken on damaged bytes has left, to be called again.
     pub fn left(&self, number: u32) -> Option<Bytes> {
-        let again = number == 0 && !self.whole() && self.function != Function::Fresh;
+        let again = number == 0 && !self.whole() && matches!(self.function, Function::Call | Function::Answer);
         let of = |p: &Piece| p.now().to_vec();
         again.then(|| Bytes { state: of(&self.state), inbox: of(&self.inbox), outbox: of(&self.outbox) })
     }
 }
 
-fn function(r: &mut Prng) -> Function {
+/// Mostly what can be taken: an answer at a question, a call at rest.
+fn function(r: &mut Prng, stop: &Stop) -> Function {
+    let suits = if stop.question == Question::Finished { Function::Call } else { Function::Answer };
     match r.below(8) {
-        0..4 => Function::Answer,
+        0..4 => suits,
         _ => r.pick(&FUNCTIONS).0,
     }
 }
@@ -150,8 +215,7 @@ fn function(r: &mut Prng) -> Function {
 /// The wrapper's next call, or a reader that is not refused.
 fn own_function(r: &mut Prng, stop: &Stop) -> Function {
     let next = stop.next.as_ref().map(|(step, ..)| match step {
-        Step::Open => Function::Open,
-        Step::Close => Function::Close,
+        Step::Call { .. } => Function::Call,
         Step::Answer { .. } => Function::Answer,
     });
     next.filter(|_| !r.one_in(4)).unwrap_or_else(|| Function::Read(r.pick(&stop.reads.each_ref().map(|(w, ..)| *w))))
@@ -184,15 +248,42 @@ fn mailbox(r: &mut Prng, from: &[u8], own: bool) -> Vec<u8> {
     from.to_vec()
 }
 
-/// The newest undo record, half of them with an opcode that a command can have.
+/// An opcode: mostly one that a command can have, now and then a reserved one or any.
+fn opcode(r: &mut Prng) -> u16 {
+    let any = r.next_u64() as u16;
+    match r.below(16) {
+        0 => r.pick(&RESERVED),
+        1 => any,
+        2 => 0x1000 | any & 0xfff,
+        _ => any & 0xfff,
+    }
+}
+
+/// An undo record; of a list of many all but a few can be sent.
 fn undo(r: &mut Prng) -> Undo {
-    let op = r.next_u64() as u16;
-    Undo {
-        op: if r.one_in(2) { op & 0xfff } else { op },
+    let op = if r.one_in(64) { opcode(r) } else { 0x020 };
+    Undo { op, op_mod: r.next_u64() as u8, in_mod: r.next_u64() as u32, in_param: r.next_u64() }
+}
+
+/// A call of any kind, and of unknown ones, with any numbers; marks around the length of the list.
+fn any_call(r: &mut Prng, count: usize) -> Arguments {
+    let kinds = [10, 11, 255, 256, 257, 0x8000_0001, 0xffff_fffe, 0xffff_ffff];
+    let (any, n) = (r.next_u64(), count as u64);
+    let few =
+        [0, 1, PAGE, PAGE + 1, n, n.wrapping_sub(1), n / 2, 1 << 52, 0u64.wrapping_sub(PAGE), 1u64.wrapping_sub(PAGE)];
+    Arguments {
+        kind: if r.one_in(8) { r.pick(&kinds) } else { r.below(10) as u32 },
+        op: opcode(r),
         op_mod: r.next_u64() as u8,
         in_mod: r.next_u64() as u32,
-        in_param: r.next_u64(),
+        value: if r.one_in(4) { r.pick(&[any, u64::MAX, any & 0xffff]) } else { r.pick(&few) },
     }
+}
+
+/// A client's input of any length, too long ones among them.
+fn input(r: &mut Prng) -> Vec<u8> {
+    let length = r.pick(&[0, 0, 1, 16, 300, 4095, 4096, 4097, 6000]);
+    garbage(r, length + 8)[..length].to_vec()
 }
 
 /// Bits, bytes and whole words are changed, up to eight of them; the first words more often.

@@ -1,19 +1,22 @@
 //! Sessions stopped at random questions, with the wrapper's next step.
 
-use session::abi;
-use session::ffi::{self, Reader};
+use session::abi::{self, UNDO_RECORDS};
+use session::ffi::{self, Called, Reader};
 use session::{Answer, Outcome, Question, Session, Undo, UndoList};
-use world::plan::Plan;
+use world::calls::Call;
+use world::plan::Later;
 use world::prng::Prng;
 use world::World;
 
-use crate::sessions::cases;
+use crate::calls::cases::{self, Case};
+use crate::calls::told;
 use crate::sessions::over::Over;
+use crate::sessions::told::record;
 
 /// The stops that are kept of a session.
 const STOPS: usize = 32;
-/// The sessions by seed, beside those of the chosen cards.
-const SEEDS: u64 = 24;
+/// The sessions by seed, beside the chosen lists.
+const SEEDS: u64 = 40;
 /// A session is left after so many questions, most of which are polls then.
 const QUESTIONS: usize = 20_000;
 
@@ -31,11 +34,20 @@ impl Bytes {
     }
 }
 
-/// What the wrapper did next: the answer that it handed in, or a call.
+/// A call's arguments.
+#[derive(Clone, Debug)]
+pub struct Arguments {
+    pub kind: u32,
+    pub op: u16,
+    pub op_mod: u8,
+    pub in_mod: u32,
+    pub value: u64,
+}
+
+/// What the wrapper did next: a call, or the answer that it handed in.
 #[derive(Clone)]
 pub enum Step {
-    Open,
-    Close,
+    Call { call: Arguments, input: Vec<u8> },
     Answer { told: [u64; 3], resource: Vec<u8> },
 }
 
@@ -44,9 +56,10 @@ pub struct Stop {
     pub bytes: Bytes,
     pub question: Question,
     pub outcome: Outcome,
-    /// The undo records that were lent, and the newest one.
-    pub count: usize,
-    pub top: Undo,
+    /// How many buffers are lent.
+    pub lent: usize,
+    /// The undo records that are on the list.
+    pub undo: Vec<Undo>,
     /// What the readers give: a number and words.
     pub reads: [(Reader, u32, Vec<u8>); 4],
     /// The next step, the bytes behind it, and the words of its turn: the question and the undo records left.
@@ -64,8 +77,8 @@ impl Stop {
             bytes: Bytes::of(s),
             question,
             outcome: s.result().expect("a session"),
-            count: undo.len(),
-            top: undo.records().last().copied().unwrap_or_default(),
+            lent: s.books().expect("a session").lent().len(),
+            undo: undo.records().to_vec(),
             reads: [
                 read(Reader::Question, abi::QUESTION),
                 read(Reader::Result, abi::RESULT),
@@ -77,15 +90,20 @@ impl Stop {
     }
 }
 
-fn step(answer: Answer) -> Step {
+fn answered(answer: Answer) -> Step {
     let t = answer.told();
     Step::Answer { told: [t.kind.into(), t.a, t.b], resource: t.resource.to_vec() }
+}
+
+fn called(call: session::Call) -> Step {
+    let Called { kind, op, op_mod, in_mod, value, input } = call.called();
+    Step::Call { call: Arguments { kind, op, op_mod, in_mod, value }, input: input.to_vec() }
 }
 
 /// A session that is led on, and the stops that are kept of it.
 struct Led<'a> {
     session: Box<Session>,
-    undo: Box<UndoList>,
+    undo: UndoList<'a>,
     bus: World,
     stops: Vec<Stop>,
     questions: usize,
@@ -120,39 +138,45 @@ impl Led<'_> {
             let kept = self.place().map(|at| (at, Stop::of(&self.session, question, &self.undo)));
             question = self.session.answer(answer, &mut self.undo).expect("an answer that suits");
             if let Some((at, stop)) = kept {
-                self.keep(at, stop, Some(step(answer)), question);
+                self.keep(at, stop, Some(answered(answer)), question);
             }
         }
         true
     }
 
     /// A session at rest, always kept; then one call.
-    fn begin(&mut self, what: Step) -> bool {
+    fn begin(&mut self, call: session::Call) -> bool {
         let stop = Stop::of(&self.session, Question::Finished, &self.undo);
-        let first = match what {
-            Step::Open => self.session.begin_open(&mut self.undo),
-            _ => self.session.begin_close(&mut self.undo),
-        };
-        let first = first.expect("a call at its time");
-        self.keep(usize::MAX, stop, Some(what), first);
+        let first = self.session.begin(call, &mut self.undo).expect("a call at its time");
+        self.keep(usize::MAX, stop, Some(called(call)), first);
         self.on(first)
     }
 
-    fn lead(mut self) -> Vec<Stop> {
-        if !self.begin(Step::Open) {
-            return self.stops;
+    /// One call of a list; false where nothing can follow.
+    fn call(&mut self, call: &Call, later: &Later) -> bool {
+        match (told::call(call), call) {
+            (Some(c), _) if !self.begin(c) => return false,
+            (None, Call::PushUndo(u)) => self.undo.push(record(u)).expect("room"),
+            (None, _) => panic!("a call that is none"),
+            _ => {}
         }
-        if self.session.result() == Ok(Outcome::Open) {
-            for _ in 0..self.r.below(4) {
-                let record = Undo { op: self.r.below(0x1100) as u16, ..Undo::default() };
-                assert!(self.undo.push(record), "room");
-            }
-            if !self.begin(Step::Close) {
-                return self.stops;
+        let open = self.session.result().expect("a session").is_open();
+        if open && *call == Call::Open {
+            self.bus.schedule(later.clone());
+        }
+        open
+    }
+
+    fn lead(mut self, case: &Case) -> Vec<Stop> {
+        for call in &case.calls {
+            if !self.call(call, &case.later) {
+                break;
             }
         }
-        let rest = Stop::of(&self.session, Question::Finished, &self.undo);
-        self.keep(usize::MAX, rest, None, Question::Finished);
+        if self.session.result() != Ok(Outcome::Running) {
+            let rest = Stop::of(&self.session, Question::Finished, &self.undo);
+            self.keep(usize::MAX, rest, None, Question::Finished);
+        }
         self.stops
     }
 }
@@ -164,23 +188,27 @@ pub struct Pool {
 }
 
 impl Pool {
-    /// The chosen cards, and more by seed.
+    /// The chosen lists, one that lends all that can be lent, and more by seed.
     pub fn new(r: &mut Prng) -> Pool {
-        let mut plans: Vec<Plan> = cases::variants().into_iter().map(|c| c.plan).collect();
-        plans.extend((0..SEEDS).map(|_| Plan::seeded(r.next_u64())));
-        let mut all = Vec::new();
-        for plan in plans {
-            let bus = World::new(plan);
-            let (session, undo) = (Box::default(), Box::default());
-            all.extend(Led { session, undo, bus, stops: Vec::new(), questions: 0, r }.lead());
+        let mut all = cases::chosen();
+        let mut full = all[1].clone();
+        full.calls = [&[Call::Open], &vec![Call::Lend { bytes: 1 }; abi::LENT_BUFFERS][..]].concat();
+        all.push(full);
+        all.extend((0..SEEDS).map(|_| cases::seeded(r.next_u64())));
+        let mut stops = Vec::new();
+        for case in all {
+            let mut records = [Undo::default(); UNDO_RECORDS];
+            let (bus, undo) = (World::new(case.plan.clone()), UndoList::new(&mut records));
+            let led = Led { session: Box::default(), undo, bus, stops: Vec::new(), questions: 0, r };
+            stops.extend(led.lead(&case));
         }
-        let (rest, running) = all.into_iter().partition(|s| s.question == Question::Finished);
+        let (rest, running) = stops.into_iter().partition(|s| s.question == Question::Finished);
         Pool { running, rest }
     }
 
-    /// One of them, every fifth at rest.
+    /// One of them, two of five at rest.
     pub fn any(&self, r: &mut Prng) -> &Stop {
-        let all = if r.one_in(5) { &self.rest } else { &self.running };
+        let all = if r.below(5) < 2 { &self.rest } else { &self.running };
         &all[r.below(all.len() as u64) as usize]
     }
 }

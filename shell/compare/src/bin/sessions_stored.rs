@@ -1,4 +1,4 @@
-//! Writes the sample of whole sessions for the gate.
+//! Writes the sample of lists of calls for the gate.
 //!
 //! sessions_stored STDIN STDOUT      the two files
 
@@ -10,7 +10,7 @@ fn main() -> ExitCode {
         eprintln!("sessions_stored STDIN STDOUT");
         return ExitCode::FAILURE;
     };
-    let (input, output) = compare::sessions::sample::sample();
+    let (input, output) = compare::calls::sample::sample();
     match std::fs::write(stdin, input).and_then(|()| std::fs::write(stdout, output)) {
         Ok(()) => ExitCode::SUCCESS,
         Err(e) => {

@@ -5,6 +5,7 @@ use std::fmt;
 use std::rc::Rc;
 
 use oracle::run::{self, Driver};
+use session::abi::UNDO_RECORDS;
 use session::{Outcome, Session, UndoList};
 use world::results::{Closing, Opened, Refusal, State, Stop};
 use world::trace::Trace;
@@ -12,14 +13,14 @@ use world::traced::Traced;
 use world::{Holdings, World};
 
 use super::cases::Case;
-use super::glimpse::{Glimpse, Notes};
+use super::glimpse::Glimpse;
 use super::over::Over;
 use super::told;
 
 type Bus = Traced<Glimpse<World>>;
 
 /// What the mailboxes hold before the opening.
-const STALE: u8 = 0xa5;
+pub(crate) const STALE: u8 = 0xa5;
 
 /// What one of the two did and came to.
 #[derive(Clone, PartialEq, Debug)]
@@ -47,8 +48,6 @@ pub struct Run {
     pub books: Option<session::Books>,
     /// No command was posted whose end was not seen.
     pub seen: bool,
-    /// What the mailboxes held, where the Rust ran and it was noted.
-    pub notes: Option<Notes>,
 }
 
 fn bus(case: &Case) -> Bus {
@@ -60,24 +59,13 @@ fn world(bus: &Bus) -> &World {
 }
 
 /// A mailbox that never had pages was not touched.
-fn mailbox(bytes: Option<Vec<u8>>) -> Vec<u8> {
+pub(crate) fn mailbox(bytes: Option<Vec<u8>>) -> Vec<u8> {
     bytes.unwrap_or_else(|| vec![STALE; 4096])
 }
 
 /// The Rust's run; nothing outside the domain of document 01.
 pub fn rust(case: &Case) -> Option<Run> {
-    rust_over(bus(case), case)
-}
-
-/// The same, with what the mailboxes held.
-pub fn rust_noted(case: &Case) -> Option<Run> {
-    let mut noted = bus(case);
-    noted.bus.notes = Some(Notes::default());
-    rust_over(noted, case)
-}
-
-fn rust_over(bus: Bus, case: &Case) -> Option<Run> {
-    let shared = Rc::new(RefCell::new(bus));
+    let shared = Rc::new(RefCell::new(bus(case)));
     let mut driver = Driver::new(shared.clone());
     let opened = match run::open(&mut driver) {
         Ok(opened) => Ok(Box::new(opened)),
@@ -99,28 +87,22 @@ fn rust_over(bus: Bus, case: &Case) -> Option<Run> {
     }
     let (holdings, misuse) = (world(&bus).holdings(), world(&bus).misuse().to_vec());
     let ran = Ran { opening, opened, state, closing, closed: closed.flatten(), inbox, outbox, holdings, misuse };
-    Some(Run {
-        ran,
-        calls: [first, world(&bus).calls()],
-        reads: bus.bus.reads,
-        books: None,
-        seen: true,
-        notes: bus.bus.notes.take(),
-    })
+    Some(Run { ran, calls: [first, world(&bus).calls()], reads: bus.bus.reads, books: None, seen: true })
 }
 
 /// The session's run.
 pub fn ours(case: &Case) -> Run {
     let mut bus = bus(case);
     let mut session = Box::new(Session::with_mailboxes([STALE; 4096], [STALE; 4096]));
-    let mut undo = Box::new(UndoList::new());
+    let mut records = [session::Undo::default(); UNDO_RECORDS];
+    let mut undo = UndoList::new(&mut records);
     let mut over = Over::new(&mut bus);
     let outcome = session.open(&mut over, &mut undo).expect("a fresh session");
     let mut unseen = over.unseen;
     let opening = bus.take();
     let first = world(&bus).calls();
     let good = outcome == Outcome::Open;
-    case.undo.iter().filter(|_| good).for_each(|u| assert!(undo.push(told::record(u)), "room"));
+    case.undo.iter().filter(|_| good).for_each(|u| undo.push(told::record(u)).expect("room"));
     let opened =
         told::refusal(outcome).map_or_else(|| Ok(Box::new(told::opened(&session.setup().expect("open")))), Err);
     let state = good.then(|| Box::new(told::state(&session.books().expect("a session"), &undo)));
@@ -136,7 +118,7 @@ pub fn ours(case: &Case) -> Run {
     let (inbox, outbox) = (session.inbox().to_vec(), session.outbox().to_vec());
     let ran = Ran { opening, opened, state, closing, closed, inbox, outbox, holdings, misuse };
     let books = Some(session.books().expect("a session"));
-    Run { ran, calls: [first, world(&bus).calls()], reads: bus.bus.reads, books, seen: unseen == 0, notes: None }
+    Run { ran, calls: [first, world(&bus).calls()], reads: bus.bus.reads, books, seen: unseen == 0 }
 }
 
 /// Where the two differ.
@@ -146,6 +128,16 @@ pub struct Difference {
     pub at: String,
     pub rust: String,
     pub session: String,
+}
+
+impl Difference {
+    /// Of two texts that differ, the first line that does.
+    pub(crate) fn of_text(case: &str, part: &str, rust: &str, session: &str) -> Difference {
+        let (a, b): (Vec<&str>, Vec<&str>) = (rust.lines().collect(), session.lines().collect());
+        let at = (0..a.len().max(b.len())).find(|i| a.get(*i) != b.get(*i)).unwrap_or(0);
+        let line = |all: &[&str]| all.get(at).map_or("nothing", |l| *l).to_string();
+        Difference { case: case.into(), at: format!("{part}, line {}", at + 1), rust: line(&a), session: line(&b) }
+    }
 }
 
 impl fmt::Display for Difference {
@@ -175,10 +167,7 @@ fn parts(ran: &Ran) -> [(&'static str, String); 9] {
 fn first_difference(case: &Case, rust: &Ran, ours: &Ran) -> Difference {
     let both = parts(rust).into_iter().zip(parts(ours));
     let ((part, a), (_, b)) = both.into_iter().find(|(a, b)| a != b).expect("a difference");
-    let (a, b): (Vec<&str>, Vec<&str>) = (a.lines().collect(), b.lines().collect());
-    let at = (0..a.len().max(b.len())).find(|i| a.get(*i) != b.get(*i)).expect("a difference");
-    let line = |all: &[&str]| all.get(at).map_or("nothing", |l| *l).to_string();
-    Difference { case: case.name.clone(), at: format!("{part}, line {}", at + 1), rust: line(&a), session: line(&b) }
+    Difference::of_text(&case.name, part, &a, &b)
 }
 
 /// Compares two runs of one case. An outbox that the card may have written behind the session's back, once a command's
@@ -199,20 +188,19 @@ pub fn same(case: &Case) -> Result<Option<Run>, Box<Difference>> {
         return Ok(None);
     };
     let ours = ours(case);
-    let kept = books_fit(case, &ours);
+    let kept = books_fit(&case.name, ours.books.as_ref().expect("the session's run"), &ours.ran.holdings);
     differ(case, &rust.ran, ours)?;
     kept.map(|()| Some(rust))
 }
 
 /// At the end the books have exactly the pages that were not given back.
-fn books_fit(case: &Case, run: &Run) -> Result<(), Box<Difference>> {
-    let books = run.books.as_ref().expect("the session's run");
+pub(crate) fn books_fit(case: &str, books: &session::Books, holdings: &Holdings) -> Result<(), Box<Difference>> {
     let mut held: Vec<u64> = books.buffers().map(|b| b.handle).collect();
     held.sort_unstable();
-    let in_use: Vec<u64> = run.ran.holdings.in_use.iter().map(|h| h.0).collect();
+    let in_use: Vec<u64> = holdings.in_use.iter().map(|h| h.0).collect();
     if held == in_use {
         return Ok(());
     }
     let (rust, session) = (format!("in use {in_use:?}"), format!("{held:?}"));
-    Err(Box::new(Difference { case: case.name.clone(), at: "books".into(), rust, session }))
+    Err(Box::new(Difference { case: case.into(), at: "books".into(), rust, session }))
 }

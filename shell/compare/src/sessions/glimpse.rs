@@ -33,6 +33,11 @@ impl<B: Bus> Glimpse<B> {
         Glimpse { bus, at, reads: 0, notes: None }
     }
 
+    /// The read that shows GO, counted from here.
+    pub fn schedule(&mut self, at: Option<u64>) {
+        self.at = at.map(|n| self.reads + n);
+    }
+
     /// The first page of a mailbox, by its number among the pages.
     fn mailbox(&self, n: usize) -> Vec<u8> {
         let handle = self.notes.as_ref().and_then(|notes| notes.pages.get(n));

@@ -2,9 +2,9 @@
 //! worlds of one plan; every bus call with its arguments and its answer, the bytes of the inbox at each command, the
 //! results, the books of the open session, the mailboxes, and what host and card hold at the end must be the same.
 //!
-//! `over` is the session's bus over the world's (of the package `station`), `glimpse` a card that shows GO once where it should not, `cases` what is
-//! run, `told` the session's results in the Rust's words, `beside` the comparison, `sample` the runs that the gate has, and
-//! `stored` their form; `answers` has the answers that suit a question.
+//! `over` is the session's bus over the world's (of the package `station`), `glimpse` a card that shows GO once where it
+//! should not, `cases` what is run, `told` the session's results in the Rust's words, `beside` the comparison, `sample` the
+//! runs that the gate has; `answers` has the answers that suit a question.
 
 pub mod answers;
 pub mod beside;
@@ -12,5 +12,4 @@ pub mod cases;
 pub mod glimpse;
 pub use station::over;
 pub mod sample;
-pub mod stored;
 pub mod told;

@@ -1,4 +1,4 @@
-//! The sessions that are stored for the gate.
+//! The openings and closes that are stored for the gate.
 
 use world::bus::Resource;
 use world::plan::{put_be16, Behaviour, OddMap, Plan, Which, NEVER};
@@ -7,8 +7,6 @@ use world::trace::Event;
 
 use super::beside::rust;
 use super::cases::{obedient, refused_replies, variants, Case, ENDLESS};
-use super::stored::record;
-use crate::machines::records::Record;
 
 /// A card that obeys, without undo records, with one thing changed.
 fn changed(name: &str, change: impl FnOnce(&mut Plan)) -> Case {
@@ -118,10 +116,4 @@ fn replies() -> Vec<Case> {
 /// All cases, good ones first.
 pub fn cases() -> Vec<Case> {
     [variants(), early(), memory(), commands(), closings(), replies()].concat()
-}
-
-/// The input of the program, and what the Rust asked and came to.
-pub fn sample() -> (Vec<u8>, String) {
-    let all: Vec<Record> = cases().iter().map(record).collect();
-    (all.iter().flat_map(|r| r.input.clone()).collect(), all.iter().map(|r| r.output.as_str()).collect())
 }

@@ -15,10 +15,10 @@ pub fn closing(c: session::Closing) -> Closing {
     }
 }
 
-fn values(r: session::Refusal) -> Vec<u64> {
+pub(crate) fn values(r: session::Refusal) -> Vec<u64> {
     use session::Refusal::*;
     match r {
-        Attributes | Owner | Reset | Bar | Memory | NotPrimary | Address => Vec::new(),
+        Attributes | Owner | Reset | Bar | Memory | NotPrimary | Address | Reserved | Undo => Vec::new(),
         Busy => vec![0],
         Status { status, us } => vec![status.into(), us],
         Timeout { us } | Bus { us } => vec![us],
@@ -101,7 +101,7 @@ pub fn opened(s: &Setup) -> Opened {
     }
 }
 
-fn buffer(b: session::Buffer) -> Buffer {
+pub(crate) fn buffer(b: session::Buffer) -> Buffer {
     Buffer { handle: Handle(b.handle), address: b.address, pages: b.pages }
 }
 

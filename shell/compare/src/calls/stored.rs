@@ -1,10 +1,12 @@
-//! A session as the gate has it stored: what the Rust was answered, and what it asked and came to.
+//! A list of calls as the gate has it stored: what the Rust was answered, and what it asked and came to.
 //!
-//! A record has four numbers of 16 bits: 1 for an opening, 2 for an opening and a close; the words behind these numbers;
-//! the answers; and their bytes. Then the words, 64 bits each, two for each undo record that is pushed on the open
-//! session, oldest first: opcode times 2^48, plus its modifier times 2^32, plus the input modifier; and the in parameter.
-//! Then the answers, in the order in which they are given. All numbers are big-endian. Before the opening every byte of
-//! both mailboxes is 0xa5.
+//! A record has four numbers of 16 bits: the calls, their bytes, the answers, and their bytes. Then the calls, one behind the
+//! other, and the answers, in the order in which they are given. All numbers are big-endian. Before the first call every
+//! byte of both mailboxes is 0xa5, and no record is on the undo list.
+//!
+//! A call is the arguments of hca_call: its kind (8 bits), opcode (16), opcode modifier (8), input modifier (32), value (64),
+//! the length of the input (16), and the input. What a kind does not look at is 0. The kind 10 is hca_push_undo of that
+//! record, its in parameter as the value, at the end of the list; it asks nothing.
 //!
 //! An answer is a byte with its kind, and its values. 128 is added to the kind where the answer and the one before it are
 //! given more than once in turn; then the number of times, 32 bits, stands behind the kind.
@@ -27,33 +29,40 @@
 //! The checksum of bytes begins with 0 and goes on by s times 257, plus the byte, modulo 4294967291.
 //!
 //! ```text
-//! ended N A B C 0       the opening: 0, or the refusal's number and its two values; how its closing went
-//! uar .. table          where it is open, what it has found out, as the words of hca_setup: 0 to 2 of `uar`, 4 to 7 of
-//!                       `func`, 8 to 20 of `caps`, 22 to 39 of `flags`, 17 of each port that was asked about, 74 to 77
+//! call K                before the questions of each call: its kind
+//! gave R A B C D        behind them: the words of hca_result
+//! uar .. table          behind a good opening, what it has found out, as the words of hca_setup: 0 to 2 of `uar`, 4 to 7
+//!                       of `func`, 8 to 20 of `caps`, 22 to 39 of `flags`, 17 of each port that was asked about, 74 to 77
 //!                       of `layout`, and five of each `table` in the order of their bases
-//! books                 likewise, words 0 to 4 and 6 to 10 of hca_books
-//! boxes I O             the checksums of inbox and outbox behind the opening
-//! closed C              how the close went
+//! books                 where the session is open, words 0 to 4 and 6 to 10 of hca_books
+//! lent H A P            likewise each lent buffer: its three words
+//! undo N                likewise how many records are on the list
+//! boxes I O             the checksums of inbox and outbox
 //! ```
+//!
+//! Behind a call of the kind 10 there is the line `undo` alone.
 
 use std::fmt::Write;
 
+use session::abi;
 use world::bus::Mapping;
+use world::calls::{Call, Command, Form};
 use world::registers::{BAR_DCS, GO_WRITE};
-use world::results::{Closing, Opened, State, Undo};
+use world::results::{Closing, Done, Given, Opened, Refusal, State};
 use world::trace::{Event, Trace};
 
-use super::beside::{rust_noted, Run};
+use super::beside::{rust_noted, Step};
 use super::cases::Case;
-use super::glimpse::Notes;
 use crate::machines::records::{fold, of_event, turn, Record, Turn, Turns};
+use crate::sessions::glimpse::Notes;
 
 /// The kind of an outbox.
 const OUTBOX: u64 = 8;
 const REPEATED: u8 = 128;
-/// The longest body, and the longest text, that a program is asked to take.
-const BODY: usize = 8192;
-const TEXT: usize = 16384;
+/// The longest body that a program is asked to take.
+const BODY: usize = 16384;
+/// The kind of a record that is pushed.
+const PUSH: u32 = 10;
 
 /// The checksum of bytes.
 pub fn checksum(bytes: &[u8]) -> u64 {
@@ -97,7 +106,7 @@ impl Reader<'_> {
                 self.maps += 1;
                 self.outbox = if self.maps == 2 { Some(*address) } else { self.outbox };
             }
-            Event::Post(post) => self.names = post.out_param != 0 && Some(post.out_param) == self.outbox,
+            Event::Post(post) => self.names = Some(post.out_param) == self.outbox,
             _ => {}
         }
     }
@@ -148,8 +157,46 @@ fn answer(t: &Turn, times: u64) -> Vec<u8> {
     bytes
 }
 
-fn undo_words(u: &Undo) -> [u64; 2] {
-    [u64::from(u.op) << 48 | u64::from(u.op_mod) << 32 | u64::from(u.in_mod), u.in_param]
+/// A call's bytes.
+fn call(c: &Call) -> Vec<u8> {
+    let of = |kind: u32, op: u16, op_mod: u8, in_mod: u32, value: u64, input: &[u8]| {
+        let mut bytes = vec![kind as u8];
+        bytes.extend(op.to_be_bytes());
+        bytes.push(op_mod);
+        bytes.extend(in_mod.to_be_bytes());
+        bytes.extend(value.to_be_bytes());
+        bytes.extend((input.len() as u16).to_be_bytes());
+        bytes.extend(input);
+        bytes
+    };
+    match c {
+        Call::Command(Command { form, op, op_mod, in_mod, in_param, input }) => {
+            let value = if *form == Form::Imm { *in_param } else { 0 };
+            of(kind(c), *op, *op_mod, *in_mod, value, input)
+        }
+        Call::PushUndo(u) => of(kind(c), u.op, u.op_mod, u.in_mod, u.in_param, &[]),
+        Call::Lend { bytes } => of(kind(c), 0, 0, 0, *bytes, &[]),
+        Call::UndoTo { mark } => of(kind(c), 0, 0, 0, *mark, &[]),
+        Call::Open | Call::Quiesce | Call::Close => of(kind(c), 0, 0, 0, 0, &[]),
+    }
+}
+
+fn kind(c: &Call) -> u32 {
+    match c {
+        Call::Open => abi::OPEN,
+        Call::Command(c) => match c.form {
+            Form::Imm => abi::IMM,
+            Form::WithIn => abi::WITH_IN,
+            Form::WithOut => abi::WITH_OUT,
+            Form::InImm => abi::IN_IMM,
+            Form::InOut => abi::IN_OUT,
+        },
+        Call::Lend { .. } => abi::LEND,
+        Call::PushUndo(_) => PUSH,
+        Call::UndoTo { .. } => abi::UNDO_TO,
+        Call::Quiesce => abi::QUIESCE,
+        Call::Close => abi::CLOSE,
+    }
 }
 
 /// The questions of a part.
@@ -218,43 +265,56 @@ fn tables(o: &Opened) -> String {
 fn books(s: &State) -> String {
     let (bar, offset) = s.catas.unwrap_or_default();
     let counts = [s.icm.len() as u64, s.lent.len() as u64, s.started.into(), s.original, s.toggle.into()];
-    row(
-        "books",
-        &[&counts[..], &[s.broken.into(), s.silent.into(), s.catas.is_none().into(), bar.into(), offset]].concat(),
-    )
+    let more = [s.broken.into(), s.silent.into(), s.catas.is_none().into(), bar.into(), offset];
+    let lent = s.lent.iter().map(|b| row("lent", &[b.handle.0, b.address, b.pages]));
+    row("books", &[&counts[..], &more].concat()) + &lent.collect::<String>()
 }
 
-/// How the opening ended.
-fn ended(run: &Run) -> String {
-    match &run.ran.opened {
-        Ok(o) => {
-            let state = run.ran.state.as_ref().expect("an open session");
-            [row("ended", &[0; 5]), caps(o), ports(o), tables(o), books(state)].concat()
-        }
+/// The words of hca_result.
+fn result(given: &Result<Given, Refusal>) -> [u64; 5] {
+    match given {
+        Ok(Given::Opened(_) | Given::Nothing) => [2, 0, 0, 0, 0],
+        Ok(Given::Closed(c)) => [4, 0, 0, 0, closing(*c)],
+        Ok(Given::Done(Done { immediate, us, .. })) => [5, immediate.unwrap_or(0), *us, 0, 0],
+        Ok(Given::Lent(b)) => [6, b.handle.0, b.address, b.pages, 0],
         Err(r) => {
             let value = |i: usize| r.values.get(i).copied().unwrap_or(0);
-            let how = closing(r.closing.expect("a failed opening was closed"));
-            row("ended", &[r.number.into(), value(0), value(1), how, 0])
+            let (first, last) = r.closing.map_or((7, 0), |c| (3, closing(c)));
+            [first, r.number.into(), value(0), value(1), last]
         }
     }
 }
 
-/// The record of a case, from the Rust's run alone.
+/// What a call came to.
+fn told(c: &Call, step: &Step) -> String {
+    let undo = step.state.as_ref().map_or(String::new(), |s| row("undo", &[s.undo.len() as u64]));
+    if let Call::PushUndo(_) = c {
+        return undo;
+    }
+    let opened = match &step.given {
+        Ok(Given::Opened(o)) => [caps(o), ports(o), tables(o)].concat(),
+        _ => String::new(),
+    };
+    let state = step.state.as_ref().map_or(String::new(), |s| books(s));
+    let boxes = row("boxes", &[checksum(&step.inbox), checksum(&step.outbox)]);
+    [row("gave", &result(&step.given)), opened, state, undo, boxes].concat()
+}
+
+/// The record of a list, from the Rust's run alone.
 pub fn record(case: &Case) -> Record {
     let run = rust_noted(case).expect("inside the domain");
     let notes = run.notes.as_ref().expect("noted");
     let mut reader = Reader { notes, posts: 0, reads: 0, outbox: None, maps: 0, names: false };
-    let (opening, close) = (reader.turns(&run.ran.opening), reader.turns(&run.ran.closing));
-    let good = run.ran.opened.is_ok();
-    let undo: Vec<u64> = case.undo.iter().filter(|_| good).flat_map(undo_words).collect();
-    let answers: Vec<u8> = opening.iter().chain(&close).flat_map(|(t, times)| answer(t, *times)).collect();
-    let counts = [1 + usize::from(good && case.close), undo.len(), opening.len() + close.len(), answers.len()];
+    let (mut calls, mut answers, mut count, mut output) = (Vec::new(), Vec::new(), 0, String::new());
+    for (c, step) in case.calls.iter().zip(&run.ran.steps) {
+        let turns = reader.turns(&step.trace);
+        calls.extend(call(c));
+        answers.extend(turns.iter().flat_map(|(t, times)| answer(t, *times)));
+        count += turns.len();
+        output += &[row("call", &[kind(c).into()]), asked(&turns), told(c, step)].concat();
+    }
+    let counts = [run.ran.steps.len(), calls.len(), count, answers.len()];
     let head: Vec<u8> = counts.iter().flat_map(|n| u16::try_from(*n).expect("16 bits").to_be_bytes()).collect();
-    let words: Vec<u8> = undo.iter().flat_map(|w| w.to_be_bytes()).collect();
-    assert!(words.len() + answers.len() <= BODY, "{}: a record that the program takes", case.name);
-    let boxes = row("boxes", &[checksum(&run.ran.inbox), checksum(&run.ran.outbox)]);
-    let closed = run.ran.closed.map_or(String::new(), |c| row("closed", &[closing(c)]));
-    let output = [asked(&opening), ended(&run), boxes, asked(&close), closed].concat();
-    assert!(output.len() <= TEXT, "{}: a text that the program has room for", case.name);
-    Record { input: [head, words, answers].concat(), output }
+    assert!(calls.len() + answers.len() <= BODY, "{}: a record that the program takes", case.name);
+    Record { input: [head, calls, answers].concat(), output }
 }
