@@ -36,9 +36,10 @@ BOOLEAN config_wide(VOID);
 /* The attributes are those from before the opening. */
 BOOLEAN config_restored(VOID);
 
-/* card_memory.c: the pages that the host hands out, and where the card sees them. */
-EFI_STATUS memory_allocate(UINTN pages, VOID **host);
-EFI_STATUS memory_map(VOID *host, UINTN bytes, EFI_PHYSICAL_ADDRESS *address, VOID **token);
+/* card_memory.c: the pages that a driver gets, and where the card sees them. */
+EFI_STATUS memory_start(VOID);
+EFI_STATUS memory_allocate(EFI_ALLOCATE_TYPE type, EFI_MEMORY_TYPE kind, UINTN pages, VOID **host, UINT64 attributes);
+EFI_STATUS memory_map(EFI_PCI_IO_PROTOCOL_OPERATION operation, VOID *host, UINTN *bytes, EFI_PHYSICAL_ADDRESS *address, VOID **token);
 EFI_STATUS memory_unmap(VOID *token);
 EFI_STATUS memory_free(UINTN pages, VOID *host);
 /* The memory at these device addresses; null where the card cannot reach all of it. */
@@ -50,7 +51,6 @@ VOID misuse(const CHAR16 *what);
 UINTN misuses(VOID);
 
 /* card_pciio.c: the protocol's instance on a handle of its own. */
-EFI_STATUS card_install(EFI_HANDLE *handle);
-EFI_STATUS card_remove(EFI_HANDLE handle);
+EFI_STATUS card_install(VOID);
 
 #endif

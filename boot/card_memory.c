@@ -1,4 +1,7 @@
-/* The pages that the simulated card's host hands out. They are UEFI's own; the card sees them at other addresses. */
+/*
+ * The pages that a driver gets for the simulated card. They are handed out and mapped by the firmware's own PCI I/O, as those of another function;
+ * the card sees them at other addresses, as behind an IOMMU.
+ */
 #include "card.h"
 
 #define BUFFERS 128
@@ -10,10 +13,13 @@
 typedef struct {
     UINT8 *host;
     UINT64 pages, address;
+    /* The firmware's. */
+    VOID *token;
     /* Lent: mapped while INIT_HCA was in force. */
     BOOLEAN mapped, lent;
 } buffer;
 
+static EFI_PCI_IO_PROTOCOL *other;
 static buffer buffers[BUFFERS];
 static UINTN misused;
 
@@ -28,6 +34,12 @@ UINTN misuses(VOID)
     return misused;
 }
 
+EFI_STATUS memory_start(VOID)
+{
+    EFI_GUID guid = EFI_PCI_IO_PROTOCOL_GUID;
+    return BS->LocateProtocol(&guid, NULL, (VOID **)&other);
+}
+
 /* The buffer that begins there; null asks for a free place. */
 static buffer *find(const VOID *host)
 {
@@ -37,16 +49,14 @@ static buffer *find(const VOID *host)
     return NULL;
 }
 
-EFI_STATUS memory_allocate(UINTN pages, VOID **host)
+EFI_STATUS memory_allocate(EFI_ALLOCATE_TYPE type, EFI_MEMORY_TYPE kind, UINTN pages, VOID **host, UINT64 attributes)
 {
-    EFI_PHYSICAL_ADDRESS at = 0;
     buffer *b = find(NULL);
-    EFI_STATUS status = b ? BS->AllocatePages(AllocateAnyPages, EfiBootServicesData, pages, &at) : EFI_OUT_OF_RESOURCES;
+    EFI_STATUS status = b ? other->AllocateBuffer(other, type, kind, pages, host, attributes) : EFI_OUT_OF_RESOURCES;
     if (status != EFI_SUCCESS)
         return status;
-    *b = (buffer){ (UINT8 *)at, pages, 0, FALSE, FALSE };
+    *b = (buffer){ .host = *host, .pages = pages };
     SetMem(b->host, pages * PAGE, JUNK);
-    *host = b->host;
     return EFI_SUCCESS;
 }
 
@@ -58,17 +68,20 @@ static BOOLEAN zero(const UINT8 *bytes, UINT64 count)
     return TRUE;
 }
 
-EFI_STATUS memory_map(VOID *host, UINTN bytes, EFI_PHYSICAL_ADDRESS *address, VOID **token)
+EFI_STATUS memory_map(EFI_PCI_IO_PROTOCOL_OPERATION operation, VOID *host, UINTN *bytes, EFI_PHYSICAL_ADDRESS *address, VOID **token)
 {
     buffer *b = host ? find(host) : NULL;
-    if (!b || b->mapped || bytes > b->pages * PAGE)
+    if (!b || b->mapped || *bytes > b->pages * PAGE || operation != EfiPciIoOperationBusMasterCommonBuffer)
         return EFI_INVALID_PARAMETER;
-    if (!zero(b->host, bytes))
+    EFI_STATUS status = other->Map(other, operation, host, bytes, address, &b->token);
+    if (status != EFI_SUCCESS)
+        return status;
+    if (!zero(b->host, *bytes))
         misuse(L"pages mapped that were not zeroed");
-    b->address = (UINT64)b->host + (config_wide() ? WINDOW : 0);
+    *address += config_wide() ? WINDOW : 0;
+    b->address = *address;
     b->mapped = TRUE;
     b->lent = card_open();
-    *address = b->address;
     *token = b;
     return EFI_SUCCESS;
 }
@@ -89,7 +102,7 @@ EFI_STATUS memory_unmap(VOID *token)
     if (may_be_used(b))
         misuse(L"unmap of pages that the card may use");
     b->mapped = FALSE;
-    return EFI_SUCCESS;
+    return other->Unmap(other, b->token);
 }
 
 EFI_STATUS memory_free(UINTN pages, VOID *host)
@@ -102,7 +115,7 @@ EFI_STATUS memory_free(UINTN pages, VOID *host)
     if (may_be_used(b))
         misuse(L"pages given back that the card may use");
     b->host = NULL;
-    return BS->FreePages((EFI_PHYSICAL_ADDRESS)(UINTN)host, pages);
+    return other->FreeBuffer(other, pages, host);
 }
 
 UINT8 *memory_at(UINT64 address, UINT64 bytes)

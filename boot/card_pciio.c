@@ -67,9 +67,7 @@ static EFI_STATUS EFIAPI mem_write(EFI_PCI_IO_PROTOCOL *This, EFI_PCI_IO_PROTOCO
 static EFI_STATUS EFIAPI map(EFI_PCI_IO_PROTOCOL *This, EFI_PCI_IO_PROTOCOL_OPERATION Operation, VOID *HostAddress, UINTN *NumberOfBytes,
                              EFI_PHYSICAL_ADDRESS *DeviceAddress, VOID **Mapping)
 {
-    if (Operation != EfiPciIoOperationBusMasterCommonBuffer)
-        return EFI_UNSUPPORTED;
-    return memory_map(HostAddress, *NumberOfBytes, DeviceAddress, Mapping);
+    return memory_map(Operation, HostAddress, NumberOfBytes, DeviceAddress, Mapping);
 }
 
 static EFI_STATUS EFIAPI unmap(EFI_PCI_IO_PROTOCOL *This, VOID *Mapping)
@@ -80,11 +78,7 @@ static EFI_STATUS EFIAPI unmap(EFI_PCI_IO_PROTOCOL *This, VOID *Mapping)
 static EFI_STATUS EFIAPI allocate_buffer(EFI_PCI_IO_PROTOCOL *This, EFI_ALLOCATE_TYPE Type, EFI_MEMORY_TYPE MemoryType, UINTN Pages,
                                          VOID **HostAddress, UINT64 Attributes)
 {
-    if (MemoryType != EfiBootServicesData && MemoryType != EfiRuntimeServicesData)
-        return EFI_INVALID_PARAMETER;
-    return Attributes & ~(UINT64)(EFI_PCI_IO_ATTRIBUTE_MEMORY_WRITE_COMBINE | EFI_PCI_IO_ATTRIBUTE_MEMORY_CACHED)
-               ? EFI_UNSUPPORTED
-               : memory_allocate(Pages, HostAddress);
+    return memory_allocate(Type, MemoryType, Pages, HostAddress, Attributes);
 }
 
 static EFI_STATUS EFIAPI free_buffer(EFI_PCI_IO_PROTOCOL *This, UINTN Pages, VOID *HostAddress)
@@ -145,8 +139,12 @@ static EFI_STATUS EFIAPI set_bar_attributes(EFI_PCI_IO_PROTOCOL *This, UINT64 At
 
 static EFI_PCI_IO_PROTOCOL instance;
 
-EFI_STATUS card_install(EFI_HANDLE *handle)
+EFI_STATUS card_install(VOID)
 {
+    EFI_HANDLE handle = NULL;
+    EFI_STATUS status = memory_start();
+    if (status != EFI_SUCCESS)
+        return status;
     config_start();
     instance = (EFI_PCI_IO_PROTOCOL){
         .PollMem = poll,
@@ -165,11 +163,5 @@ EFI_STATUS card_install(EFI_HANDLE *handle)
         .GetBarAttributes = get_bar_attributes,
         .SetBarAttributes = set_bar_attributes,
     };
-    *handle = NULL;
-    return BS->InstallProtocolInterface(handle, &guid, EFI_NATIVE_INTERFACE, &instance);
-}
-
-EFI_STATUS card_remove(EFI_HANDLE handle)
-{
-    return BS->UninstallProtocolInterface(handle, &guid, &instance);
+    return BS->InstallProtocolInterface(&handle, &guid, EFI_NATIVE_INTERFACE, &instance);
 }

@@ -1,6 +1,10 @@
-/* Opens, uses and closes a session on a ConnectX-3 under UEFI, and prints what came of it. Without a card it brings a simulated one along. */
+/*
+ * Opens, uses and closes a session on a ConnectX-3 under UEFI; opens another one, and leaves the boot services with it. Prints what came of it.
+ * Where no card is there, it brings a simulated one along.
+ */
 #include "card.h"
 #include "client.h"
+#include "leave.h"
 
 /* Vendor and device: ConnectX-3, ConnectX-3 Pro. */
 #define CONNECTX3 0x100315b3
@@ -12,9 +16,11 @@
 #define PORTS_WORD 74
 #define TOTAL_WORD 75
 
+/* How a closing went. */
 enum { CLEAN, RESET, KEPT };
 
 static EFI_GUID guid = EFI_PCI_IO_PROTOCOL_GUID;
+static BOOLEAN simulated;
 static loader session;
 static UINT64 setup[SETUP_WORDS];
 
@@ -63,7 +69,7 @@ static BOOLEAN tell(VOID)
     return TRUE;
 }
 
-static BOOLEAN close(UINT64 wanted)
+static BOOLEAN close(VOID)
 {
     static const CHAR16 how[][16] = { L"clean", L"by a reset", L"all is kept" };
     UINT64 r[RESULT_WORDS];
@@ -71,71 +77,63 @@ static BOOLEAN close(UINT64 wanted)
     if (!client_call(&session, L"closing", (loader_request){ .kind = HCA_CLOSE }, CLOSED, r))
         return FALSE;
     Print(L"closed: %s\n", r[4] <= KEPT ? how[r[4]] : L"?");
-    return r[4] == wanted;
+    return r[4] == CLEAN;
 }
 
-/* What a loader does when it is not the last user of the card. */
+/* The simulated card and its host have got everything back. */
+static BOOLEAN nothing_left(VOID)
+{
+    BOOLEAN restored = config_restored();
+    Print(L"the simulated card: %d commands, %d misuses, attributes %s\n", card_commands(), misuses(), restored ? L"as before" : L"changed");
+    Print(L"its memory: %d buffers not given back\n", memory_in_use());
+    return memory_in_use() == 0 && misuses() == 0 && restored;
+}
+
+/* A session from its opening to its close. */
 static BOOLEAN used(EFI_PCI_IO_PROTOCOL *pci)
 {
     if (!open(pci))
         return FALSE;
     Print(L"using\n");
     BOOLEAN good = tell() && client_use(&session);
-    return close(CLEAN) && good;
+    good = close() && good;
+    return (!simulated || nothing_left()) && good;
 }
 
-/* What a loader does at ExitBootServices; only here the session can still be closed, which then takes a reset. */
-static BOOLEAN quiesced(EFI_PCI_IO_PROTOCOL *pci)
+/* A session that is open when the boot services end: the card is stopped, and can reach no memory. */
+static BOOLEAN left(EFI_HANDLE image, EFI_PCI_IO_PROTOCOL *pci)
 {
-    UINT64 r[RESULT_WORDS];
     if (!open(pci))
         return FALSE;
-    Print(L"quiescing\n");
-    BOOLEAN good = client_call(&session, L"quiesce", (loader_request){ .kind = HCA_QUIESCE }, OPEN, r);
-    return close(RESET) && good;
+    Print(L"leaving\n");
+    BOOLEAN good = leave(image, &session);
+    return good && (!simulated || (!card_busy() && !card_open() && !config_masters() && misuses() == 0));
 }
 
-/* What the simulated card and its host have seen. */
-static BOOLEAN left(VOID)
+/* The card, or a simulated one; every driver is made to let go of it. */
+static EFI_PCI_IO_PROTOCOL *get(EFI_HANDLE image)
 {
-    BOOLEAN restored = config_restored();
-    Print(L"simulated card: %d commands, %d buffers not given back, %d misuses, attributes %s\n", card_commands(), memory_in_use(), misuses(),
-          restored ? L"as before" : L"not as before");
-    return memory_in_use() == 0 && misuses() == 0 && restored;
-}
-
-/* Both sessions on the card of this handle, which every driver is made to let go of. */
-static BOOLEAN run(EFI_HANDLE image, EFI_HANDLE card)
-{
-    EFI_PCI_IO_PROTOCOL *pci;
+    EFI_PCI_IO_PROTOCOL *pci = NULL;
     UINTN segment = 0, bus = 0, device = 0, function = 0;
-    EFI_STATUS status = BS->OpenProtocol(card, &guid, (VOID **)&pci, image, NULL, EFI_OPEN_PROTOCOL_EXCLUSIVE);
-    if (status != EFI_SUCCESS) {
-        Print(L"the card cannot be had: %r\n", status);
-        return FALSE;
+    EFI_HANDLE card = find();
+    if (!card) {
+        simulated = card_install() == EFI_SUCCESS;
+        card = find();
     }
+    if (!card || BS->OpenProtocol(card, &guid, (VOID **)&pci, image, NULL, EFI_OPEN_PROTOCOL_EXCLUSIVE) != EFI_SUCCESS)
+        return NULL;
     pci->GetLocation(pci, &segment, &bus, &device, &function);
-    Print(L"card at %04lx:%02lx:%02lx.%lx\n", segment, bus, device, function);
-    BOOLEAN good = used(pci) && quiesced(pci);
-    BS->CloseProtocol(card, &guid, image, NULL);
-    return good;
+    Print(L"card at %04lx:%02lx:%02lx.%lx%s\n", segment, bus, device, function, simulated ? L", which is simulated" : L"");
+    return pci;
 }
 
 EFI_STATUS efi_main(EFI_HANDLE image, EFI_SYSTEM_TABLE *table)
 {
     InitializeLib(image, table);
     Print(L"\nTepawhuni on %s, UEFI %d.%d\n", ST->FirmwareVendor, ST->Hdr.Revision >> 16, (ST->Hdr.Revision & 0xffff) / 10);
-    EFI_HANDLE card = find(), simulated = NULL;
-    if (!card && card_install(&simulated) == EFI_SUCCESS) {
-        Print(L"no ConnectX-3 is there: a simulated one\n");
-        card = find();
-    }
-    BOOLEAN good = card && run(image, card);
-    if (simulated) {
-        good = left() && good;
-        card_remove(simulated);
-    }
-    Print(L"%s\n", good ? L"PASS: opened, used and closed clean; opened, quiesced and closed by a reset" : L"FAIL");
+    EFI_PCI_IO_PROTOCOL *pci = get(image);
+    BOOLEAN good = pci && used(pci) && left(image, pci);
+    leave_say(good ? "PASS: opened, used and closed clean; opened, and quiesced at the end\r\n" : "FAIL\r\n");
     RT->ResetSystem(EfiResetShutdown, good ? EFI_SUCCESS : EFI_ABORTED, 0, NULL);
     return EFI_ABORTED;
 }
