@@ -7,17 +7,27 @@
 
 #define PAGE 4096
 
-/* card.c: the registers of BAR 0, as the bus carries them, and the commands. */
+/* card.c: the registers of BAR 0, as the bus carries them. */
 UINT32 card_read(UINT64 offset);
 VOID card_write(UINT64 offset, UINT32 value);
 /* A command shows GO. */
 BOOLEAN card_busy(VOID);
-/* INIT_HCA was good, and CLOSE_HCA has not been since: lent pages may be used. */
-BOOLEAN card_open(VOID);
-/* A command has left the card with part of these device addresses. */
-BOOLEAN card_holds(UINT64 address, UINT64 bytes);
 /* How many commands were taken. */
 UINTN card_commands(VOID);
+
+/* card_commands.c: what commands do. */
+typedef struct {
+    UINT16 op;
+    UINT32 in_mod;
+    UINT64 in_param, out_param;
+} card_command;
+/* The status; other than 0, nothing has changed. A value in the place of a reply is left as the out parameter. */
+UINT8 command_carry_out(card_command *c);
+VOID command_reset(VOID);
+/* INIT_HCA was good, and CLOSE_HCA has not been since: lent pages may be used. */
+BOOLEAN card_open(VOID);
+/* A MAP has left the card with part of these device addresses. */
+BOOLEAN card_holds(UINT64 address, UINT64 bytes);
 
 /* card_config.c: configuration space, attributes and BARs. */
 #define CARD_BARS 2
