@@ -281,10 +281,8 @@ static VOID tell(const card_command *c, UINT8 status)
     UINTN i = 0;
     while (i < sizeof names / sizeof names[0] && names[i].op != c->op)
         i++;
-    if (i < sizeof names / sizeof names[0])
-        Print(L"  card: %-14a modifier %-4d status 0x%02x\n", names[i].name, c->in_mod, status);
-    else
-        Print(L"  card: opcode 0x%03x   modifier %-4d status 0x%02x\n", c->op, c->in_mod, status);
+    Print(L"  card: opcode 0x%03x, modifier %3d, status 0x%02x", c->op, c->in_mod, status);
+    Print(L"  %a\n", i < sizeof names / sizeof names[0] ? names[i].name : (const CHAR8 *)"of no name");
 }
 
 UINT8 command_carry_out(card_command *c)

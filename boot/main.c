@@ -4,7 +4,7 @@
  */
 #include "card.h"
 #include "client.h"
-#include "leave.h"
+#include "firmware.h"
 
 /* Vendor and device: ConnectX-3, ConnectX-3 Pro. */
 #define CONNECTX3 0x100315b3
@@ -20,7 +20,7 @@
 enum { CLEAN, RESET, KEPT };
 
 static EFI_GUID guid = EFI_PCI_IO_PROTOCOL_GUID;
-static BOOLEAN simulated;
+static BOOLEAN simulated, quiesced;
 static loader session;
 static UINT64 setup[SETUP_WORDS];
 
@@ -80,34 +80,46 @@ static BOOLEAN close(VOID)
     return r[4] == CLEAN;
 }
 
-/* The simulated card and its host have got everything back. */
-static BOOLEAN nothing_left(VOID)
+/* The host has all its pages again, and the simulated card holds nothing of what it was given. */
+static BOOLEAN nothing_left(UINT64 free_before)
 {
-    BOOLEAN restored = config_restored();
-    Print(L"the simulated card: %d commands, %d misuses, attributes %s\n", card_commands(), misuses(), restored ? L"as before" : L"changed");
-    Print(L"its memory: %d buffers not given back\n", memory_in_use());
-    return memory_in_use() == 0 && misuses() == 0 && restored;
+    UINT64 free = firmware_free_pages();
+    Print(L"UEFI's free pages: %ld before, %ld now\n", free_before, free);
+    if (!simulated)
+        return TRUE;
+    Print(L"simulated card: %d commands, %d misuses, %d buffers not given back\n", card_commands(), misuses(), memory_in_use());
+    return free == free_before && misuses() == 0 && memory_in_use() == 0 && config_restored();
 }
 
 /* A session from its opening to its close. */
 static BOOLEAN used(EFI_PCI_IO_PROTOCOL *pci)
 {
+    UINT64 free = firmware_free_pages();
     if (!open(pci))
         return FALSE;
     Print(L"using\n");
     BOOLEAN good = tell() && client_use(&session);
     good = close() && good;
-    return (!simulated || nothing_left()) && good;
+    return nothing_left(free) && good;
+}
+
+/* ExitBootServices has begun: no memory can be given back any more, so the session is quiesced and not closed. */
+static VOID EFIAPI leaving(EFI_EVENT event, VOID *context)
+{
+    UINT64 r[RESULT_WORDS];
+    Print(L"leaving\n");
+    quiesced = client_call(&session, L"quiescing", (loader_request){ .kind = HCA_QUIESCE }, OPEN, r);
 }
 
 /* A session that is open when the boot services end: the card is stopped, and can reach no memory. */
 static BOOLEAN left(EFI_HANDLE image, EFI_PCI_IO_PROTOCOL *pci)
 {
-    if (!open(pci))
+    EFI_EVENT event;
+    if (!open(pci) || BS->CreateEvent(EVT_SIGNAL_EXIT_BOOT_SERVICES, TPL_CALLBACK, leaving, NULL, &event) != EFI_SUCCESS)
         return FALSE;
-    Print(L"leaving\n");
-    BOOLEAN good = leave(image, &session);
-    return good && (!simulated || (!card_busy() && !card_open() && !config_masters() && misuses() == 0));
+    if (firmware_exit(image) != EFI_SUCCESS || !quiesced)
+        return FALSE;
+    return !simulated || (!card_busy() && !card_open() && !config_masters() && misuses() == 0);
 }
 
 /* The card, or a simulated one; every driver is made to let go of it. */
@@ -133,7 +145,7 @@ EFI_STATUS efi_main(EFI_HANDLE image, EFI_SYSTEM_TABLE *table)
     Print(L"\nTepawhuni on %s, UEFI %d.%d\n", ST->FirmwareVendor, ST->Hdr.Revision >> 16, (ST->Hdr.Revision & 0xffff) / 10);
     EFI_PCI_IO_PROTOCOL *pci = get(image);
     BOOLEAN good = pci && used(pci) && left(image, pci);
-    leave_say(good ? "PASS: opened, used and closed clean; opened, and quiesced at the end\r\n" : "FAIL\r\n");
+    firmware_say(good ? "PASS: opened, used and closed clean; opened, and quiesced at the end\r\n" : "FAIL\r\n");
     RT->ResetSystem(EfiResetShutdown, good ? EFI_SUCCESS : EFI_ABORTED, 0, NULL);
     return EFI_ABORTED;
 }
