@@ -28,15 +28,14 @@ static VOID put32(UINT8 *bytes, UINT32 v)
 BOOLEAN client_call(loader *l, const CHAR16 *name, loader_request r, UINT64 kind, UINT64 *result)
 {
     UINT32 refused = loader_call(l, r);
-    if (refused) {
-        Print(L"%s: refused with %d\n", name, refused);
+    if (refused || !loader_read(l, hca_result, result, RESULT_WORDS)) {
+        Print(L"%s: not taken, %d\n", name, refused);
         return FALSE;
     }
-    if (!loader_read(l, hca_result, result, RESULT_WORDS) || result[0] != kind) {
-        Print(L"%s: result %ld with %ld, %ld, %ld, %ld\n", name, result[0], result[1], result[2], result[3], result[4]);
-        return FALSE;
-    }
-    return TRUE;
+    if (result[0] == kind)
+        return TRUE;
+    Print(L"%s: result %ld with %ld, %ld, %ld, %ld\n", name, result[0], result[1], result[2], result[3], result[4]);
+    return FALSE;
 }
 
 /* A command with a reply. */

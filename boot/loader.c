@@ -241,7 +241,7 @@ BOOLEAN loader_read(const loader *l, loader_reader *reader, UINT64 *words, UINTN
     EFI_TPL tpl = BS->RaiseTPL(TPL_HIGH_LEVEL);
     UINT32 refused = reader(l->state, HCA_STATE, bytes, WORD * count);
     BS->RestoreTPL(tpl);
-    for (UINTN i = 0; i < count; i++)
+    for (UINTN i = 0; i < count && !refused; i++)
         words[i] = word(bytes, i);
     return refused == 0;
 }
