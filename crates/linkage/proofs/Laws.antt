@@ -1,4 +1,4 @@
--- What an answer comes to, by whether it is to a poll that goes on, and by its kind.
+-- What a call comes to, by its kind; and an answer, by whether it is to a poll that goes on, and by its kind.
 use Prim.Native.Nat.{ℕ}
 use mathlib.Core.Path.{_≡_, ap}
 use mathlib.Core.List.{List}
@@ -6,7 +6,12 @@ use Rattle.fields.specs.Outcome.{Outcome}
 use Rattle.pci.specs.declared.Answer.{Answer}
 use Rattle.poll.specs.declared.Onward.{Onward}
 use Rattle.session.specs.declared.Top.{Top}
-use Rattle.linkage.specs.Calls.{onwardBy, heardBy}
+use Rattle.calls.specs.declared.Call.{Call}
+use Rattle.linkage.specs.Calls.{wantedBy, onwardBy, heardBy}
+
+-- a call of a known kind
+pub by-wanted : {z : Outcome Call} (x : Outcome Call) (y : List ℕ) (u : Top) (s i b w : List ℕ) → x ≡ z → wantedBy x y u s i b w ≡ wantedBy z y u s i b w
+by-wanted x y u s i b w e = ap (λ (a : Outcome Call). wantedBy a y u s i b w) e
 
 -- a poll that does not go on; and an answer of a known kind
 pub by-onward : {z : Onward} (y : Onward) (a : Answer) (r : List ℕ) (u : Top) (s i b w : List ℕ) → y ≡ z → onwardBy y a r u s i b w ≡ onwardBy z a r u s i b w

@@ -9,9 +9,11 @@ use Rattle.words.specs.Words.{putWords}
 use Rattle.words_calls.specs.Calls.{questionWords}
 use Rattle.pci.specs.declared.Question.{Question}
 use Rattle.pci.specs.declared.Question.the-variants as q
+use Rattle.session.specs.declared.Gave.{Gave}
+use Rattle.session.specs.declared.Gave.the-variants as g
 use Rattle.fw.specs.declared.Outcome as fw
 use Rattle.fw.specs.declared.Outcome.the-variants as u
-use Rattle.results.specs.Results.{outcomeWords}
+use Rattle.results.specs.Results.{gaveWords, outcomeWords}
 use Rattle.readers.specs.Readers.{reads, given}
 
 -- words that are given, where there is room for them
@@ -36,9 +38,15 @@ question-length (q.Unmap k) = refl
 question-length (q.Free k n) = refl
 question-length q.Fence = refl
 
+gave-length : (x : Gave) → length (gaveWords x) ≡ 5
+gave-length g.Nothing = refl
+gave-length (g.Command x y) = refl
+gave-length (g.Lent b) = refl
+gave-length (g.Failed y) = refl
+
 pub outcome-length : (x : fw.Outcome) → length (outcomeWords x) ≡ 5
 outcome-length u.Fresh = refl
 outcome-length u.Running = refl
-outcome-length u.Opened = refl
+outcome-length (u.Opened y) = gave-length y
 outcome-length (u.Failed y k) = refl
 outcome-length (u.Closed k) = refl

@@ -8,7 +8,8 @@ use Rattle.words.specs.Words.{wordsIn, putWords}
 use Rattle.words_calls.specs.Calls.{questionWords}
 use Rattle.words_session.specs.Image.{decodeOf}
 use Rattle.session.specs.declared.Session.{Session}
-use Rattle.fw.specs.Calls.{asksOf, closable, outcomeOf}
+use Rattle.fw.specs.Calls.{asksOf, outcomeOf}
+use Rattle.calls.specs.Calls.{isIdle}
 use Rattle.results.specs.Results.{outcomeWords, setupIn}
 
 -- WHAT CAN BE READ: a number, and what `out` then holds
@@ -33,9 +34,9 @@ questionKnown x w = given 4 w (questionWords (asksOf x))
 unfoldable pub resultKnown : Session → List ℕ → Read
 resultKnown x w = given 5 w (outcomeWords (outcomeOf x))
 
--- "the opening's result": 20 unless the session is open
+-- "the opening's result": 20 unless the session is open, and no call runs
 unfoldable pub setupKnown : Session → List ℕ → Read
-setupKnown x w = pick (closable x) (pick (ltb (length w) 1064) (reads 21 w) (reads 0 (setupIn w (x .info)))) (reads 20 w)
+setupKnown x w = pick (isIdle x) (pick (ltb (length w) 1064) (reads 21 w) (reads 0 (setupIn w (x .info)))) (reads 20 w)
 
 -- the books as they stand in the bytes: all but the arrays, then the ranges and the lent buffers
 abbrev pub booksIn : (state out : List ℕ) → List ℕ

@@ -45,7 +45,7 @@ fn give_setup(s: Session, out: &mut [u8]) -> u32
     ensures { λ _. ⌜ now (out .exit) ≡ c.setupKnown s (now (out .entry)) .out ⌝ }
 {
     let info = s.info;
-    if fw::closable(s) {
+    if calls::is_idle(s) {
         if out.len() < results::SETUP {
             return SHORT;
         }

@@ -14,6 +14,8 @@ use Rattle.layout.specs.declared.Table.{Table}
 use Rattle.words_session.specs.Image.{toldFor}
 use Rattle.pci.specs.Refusals.{refusal}
 use Rattle.pci.specs.declared.Refusal.{Refusal}
+use Rattle.session.specs.declared.Gave.{Gave}
+use Rattle.session.specs.declared.Gave.the-variants as g
 use Rattle.session.specs.declared.Closing.{Closing}
 use Rattle.session.specs.declared.Closing.the-variants as c
 use Rattle.session.specs.declared.Info.{Info}
@@ -21,8 +23,8 @@ use Rattle.opening.specs.Values.{layoutIn}
 use Rattle.fw.specs.declared.Outcome as fw
 use Rattle.fw.specs.declared.Outcome.the-variants as u
 
--- WHAT HAS BECOME of a session: 0 not opened yet, 1 a call is running, 2 open, 3 the opening failed, 4 closed; behind it document 01's number and the values
--- beside it, and how the closing went
+-- WHAT HAS BECOME of a session: 0 not opened yet, 1 a call is running, 3 the opening failed, 4 closed; open, and the last call gave 2 nothing, 5 a command's immediate
+-- and the microseconds waited, 6 a buffer, 7 a failure. Behind 3 and 7 document 01's number and the values beside it; last, how the closing went
 abbrev pub besideOf : {A : Type 0} → Outcome A → List ℕ
 besideOf (value x) = []
 besideOf (refused n vs) = vs
@@ -35,11 +37,20 @@ endWord c.Clean = 0
 endWord c.Reset = 1
 endWord c.Kept = 2
 
+abbrev pub refusedWords : (kind : ℕ) → Refusal → (end : ℕ) → List ℕ
+refusedWords k why n = k ∷ numberOf {A = Unit {0}} (refusal why) ∷ at (valuesOf why) 0 ∷ at (valuesOf why) 1 ∷ n ∷ []
+
+abbrev pub gaveWords : Gave → List ℕ
+gaveWords g.Nothing = 2 ∷ 0 ∷ 0 ∷ 0 ∷ 0 ∷ []
+gaveWords (g.Command x us) = 5 ∷ x ∷ us ∷ 0 ∷ 0 ∷ []
+gaveWords (g.Lent b) = 6 ∷ b .handle ∷ b .dev ∷ b .pages ∷ 0 ∷ []
+gaveWords (g.Failed why) = refusedWords 7 why 0
+
 abbrev pub outcomeWords : fw.Outcome → List ℕ
 outcomeWords u.Fresh = 0 ∷ 0 ∷ 0 ∷ 0 ∷ 0 ∷ []
 outcomeWords u.Running = 1 ∷ 0 ∷ 0 ∷ 0 ∷ 0 ∷ []
-outcomeWords u.Opened = 2 ∷ 0 ∷ 0 ∷ 0 ∷ 0 ∷ []
-outcomeWords (u.Failed why k) = 3 ∷ numberOf {A = Unit {0}} (refusal why) ∷ at (valuesOf why) 0 ∷ at (valuesOf why) 1 ∷ endWord k ∷ []
+outcomeWords (u.Opened y) = gaveWords y
+outcomeWords (u.Failed why k) = refusedWords 3 why (endWord k)
 outcomeWords (u.Closed k) = 4 ∷ 0 ∷ 0 ∷ 0 ∷ endWord k ∷ []
 
 -- WHAT AN OPENING HAS FOUND OUT: the UAR BAR, what QUERY_FUNC said and the revision from word 0 on; the capabilities, with what QUERY_FUNC replaces, from 8; the

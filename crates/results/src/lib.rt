@@ -5,13 +5,13 @@ use pci::Refusal;
 use reply::DevCap;
 use reply::FuncInfo;
 use session::Closing;
+use session::Gave;
 use session::Info;
 ghost use mathlib.Core.Path.{_≡_};
 ghost use Prim.Native.Nat.{_+_, _*_, _≤_};
 ghost use lib.ListN.{length};
-ghost use Rattle.fw.specs.declared.Outcome.the-variants.{Failed};
 ghost use Rattle.words.specs.Words.{putWords, flat};
-ghost use Rattle.results.specs.Results.{valuesOf, endWord, outcomeWords, merged, portsOf, tableWords, putSaid, putPorts, putLayout, setupIn};
+ghost use Rattle.results.specs.Results.{valuesOf, endWord, refusedWords, gaveWords, outcomeWords, merged, portsOf, tableWords, putSaid, putPorts, putLayout, setupIn};
 
 // The bytes of what an opening has found out.
 pub const SETUP: usize = 1064;
@@ -58,28 +58,35 @@ fn end_word(closing: Closing) -> u64
     }
 }
 
-fn failed_words(why: Refusal, closing: Closing) -> [u64; 5]
-    ensures { λ r. ⌜ r ≡ outcomeWords (Failed why closing) ⌝ }
+// A refusal behind the kind of what has become of a session: its number and its two values, then how the closing went.
+fn refused_words(kind: u64, why: Refusal, end: u64) -> [u64; 5]
+    ensures { λ r. ⌜ r ≡ refusedWords kind why end ⌝ }
 {
     let v = values(why);
-    [
-        3,
-        words::wide32(why.number()),
-        v[0],
-        v[1],
-        end_word(closing),
-    ]
+    [kind, words::wide32(why.number()), v[0], v[1], end]
 }
 
-// What has become of a session: its kind, the refusal's number and its two values, and how the closing went.
+// What the last call on an open session gave.
+fn gave_words(gave: Gave) -> [u64; 5]
+    ensures { λ r. ⌜ r ≡ gaveWords gave ⌝ }
+{
+    match gave {
+        Gave::Nothing => [2, 0, 0, 0, 0],
+        Gave::Command(immediate, us) => [5, immediate, us, 0, 0],
+        Gave::Lent(b) => [6, b.handle, b.dev, b.pages, 0],
+        Gave::Failed(why) => refused_words(7, why, 0),
+    }
+}
+
+// What has become of a session: its kind, three values (a refusal's number and its two), and how the closing went.
 pub fn outcome_words(o: Outcome) -> [u64; 5]
     ensures { λ r. ⌜ r ≡ outcomeWords o ⌝ }
 {
     match o {
         Outcome::Fresh => [0, 0, 0, 0, 0],
         Outcome::Running => [1, 0, 0, 0, 0],
-        Outcome::Opened => [2, 0, 0, 0, 0],
-        Outcome::Failed(why, closing) => failed_words(why, closing),
+        Outcome::Opened(gave) => gave_words(gave),
+        Outcome::Failed(why, closing) => refused_words(3, why, end_word(closing)),
         Outcome::Closed(closing) => [4, 0, 0, 0, end_word(closing)],
     }
 }

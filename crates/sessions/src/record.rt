@@ -1,5 +1,6 @@
 // A record: how many calls there are (1 an opening, 2 an opening and a close), how many words the undo records have, how many answers there are, and the length of their
 // bytes, 16 bits each; then those words, 64 bits each, two for every undo record; and the answers.
+use session::Top;
 ghost use mathlib.Core.Path.{_≡_};
 ghost use Prim.Native.Nat.{_+_, _*_, _≤_};
 ghost use lib.ListN.{length};
@@ -29,15 +30,6 @@ impl Stored {
 
     // Added to a kind where a pair is given more than once.
     pub const REPEATED: u8 = 128;
-}
-
-// The undo list as it is lent to a call: how many records it has, and the newest one.
-pub(crate) struct Top {
-    pub count: usize,
-    pub op: u16,
-    pub op_mod: u8,
-    pub in_mod: u32,
-    pub in_param: u64,
 }
 
 // The number of so many bytes at a place, or 0 where it passes the end.

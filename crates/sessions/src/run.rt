@@ -4,9 +4,9 @@ use crate::asked::Asked;
 use crate::record;
 use crate::record::Head;
 use crate::record::Stored;
-use crate::record::Top;
 use crate::text;
 use crate::told;
+use session::Top;
 ghost use Prim.Native.Nat.{_+_, _≤_, _<_};
 
 // How far a run is: its phase, how many answers were taken, where the next one and the one before it start, how often the pair that it ends was given, the last two questions, and
@@ -37,6 +37,11 @@ impl Place {
 
 // The number of `Done` over C linkage; those of all answers are one more than in a record.
 const DONE: u32 = 4;
+
+// The numbers of the two calls.
+const OPEN: u32 = 0;
+
+const CLOSE: u32 = 9;
 
 fn begin(h: Head) -> Place {
     Place {
@@ -233,28 +238,30 @@ fn come(p: Place, h: Head, body: &[u8], outbox: &mut [u8]) {
     fetch(open.kind, reply(p.taken, p.at, h, body), body, outbox);
 }
 
-// A fresh session is opened; no undo record is there.
-fn opening(state: &mut [u8], inbox: &mut [u8], outbox: &mut [u8]) -> Asked {
+// A call that has no values.
+fn called(kind: u32, t: Top, state: &mut [u8], inbox: &mut [u8], outbox: &mut [u8]) -> Asked {
     let mut out = [0u8; 40];
-    linkage::hca_fresh(state);
-    let code = linkage::hca_open(state, inbox, outbox, 0, 0, 0, 0, 0, &mut out);
-    asked::read(code, &out)
-}
-
-fn closing(t: Top, state: &mut [u8], inbox: &mut [u8], outbox: &mut [u8]) -> Asked {
-    let mut out = [0u8; 40];
-    let code = linkage::hca_close(
+    let code = linkage::called(
         state,
+        kind,
+        0,
+        0,
+        0,
+        0,
+        false,
+        b"",
         inbox,
         outbox,
-        t.count,
-        t.op,
-        t.op_mod,
-        t.in_mod,
-        t.in_param,
+        t,
         &mut out,
     );
     asked::read(code, &out)
+}
+
+// A fresh session is opened.
+fn opening(t: Top, state: &mut [u8], inbox: &mut [u8], outbox: &mut [u8]) -> Asked {
+    linkage::hca_fresh(state);
+    called(OPEN, t, state, inbox, outbox)
 }
 
 // The session is opened, closed, or handed an answer: what it asks then.
@@ -269,27 +276,13 @@ fn call(
     outbox: &mut [u8],
 ) -> Asked {
     if phase == Place::START {
-        return opening(state, inbox, outbox);
+        return opening(t, state, inbox, outbox);
     }
     if phase == Place::OPEN {
-        return closing(t, state, inbox, outbox);
+        return called(CLOSE, t, state, inbox, outbox);
     }
     let mut out = [0u8; 40];
-    let code = linkage::hca_answer(
-        state,
-        kind,
-        s.a,
-        s.b,
-        list,
-        inbox,
-        outbox,
-        t.count,
-        t.op,
-        t.op_mod,
-        t.in_mod,
-        t.in_param,
-        &mut out,
-    );
+    let code = linkage::answered(state, kind, s.a, s.b, list, inbox, outbox, t, &mut out);
     asked::read(code, &out)
 }
 

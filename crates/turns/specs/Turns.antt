@@ -16,8 +16,10 @@ use Rattle.session.specs.declared.Top.{Top}
 use Rattle.session.specs.declared.Failure.{Failure}
 use Rattle.session.specs.declared.Failure.the-variants as f
 use Rattle.session.specs.declared.Session.{Session}
-use Rattle.fw.specs.Calls.{answerable, answerOf, answerIn, answerOut, openable, openOf, closable, closeOf}
+use Rattle.fw.specs.Calls.{answerable, answerOf, answerIn, answerOut}
 use Rattle.fw.specs.declared.Turn.{Turn}
+use Rattle.calls.specs.Calls.{callable, callOf, callIn, callOut}
+use Rattle.calls.specs.declared.Call.{Call}
 
 -- what a call leaves
 pub record After : Type 0 where
@@ -55,21 +57,15 @@ abbrev pub onSession : Outcome Session → (Session → After) → (state inbox 
 onSession (value x) k s i o w = k x
 onSession (refused n vs) k s i o w = after n s i o w
 
--- OPEN, CLOSE, ANSWER: of a session, and of the bytes that hold it
-unfoldable pub openKnown : Session → Top → (state inbox outbox out : List ℕ) → After
-openKnown x u s i o w = turned (openable x) (openOf x i o u) i o s i o w
-
-unfoldable pub closeKnown : Session → Top → (state inbox outbox out : List ℕ) → After
-closeKnown x u s i o w = turned (closable x) (closeOf x i o u) i o s i o w
+-- A CALL, AN ANSWER: of a session, and of the bytes that hold it
+unfoldable pub callKnown : Session → Call → (input : List ℕ) → Top → (state inbox outbox out : List ℕ) → After
+callKnown x c y u s i o w = turned (callable x c) (callOf x c y i o u) (callIn x c y i o u) (callOut x c y i o u) s i o w
 
 unfoldable pub answerKnown : Session → Answer → (resource : List ℕ) → Top → (state inbox outbox out : List ℕ) → After
 answerKnown x a r u s i o w = turned (answerable x a) (answerOf x a r i o u) (answerIn x a r i o u) (answerOut x a r i o u) s i o w
 
-unfoldable pub opened : Top → (state inbox outbox out : List ℕ) → After
-opened u s i o w = onSession (decodeOf s) (λ x. openKnown x u s i o w) s i o w
-
-unfoldable pub closed : Top → (state inbox outbox out : List ℕ) → After
-closed u s i o w = onSession (decodeOf s) (λ x. closeKnown x u s i o w) s i o w
+unfoldable pub called : Call → (input : List ℕ) → Top → (state inbox outbox out : List ℕ) → After
+called c y u s i o w = onSession (decodeOf s) (λ x. callKnown x c y u s i o w) s i o w
 
 unfoldable pub answered : Answer → (resource : List ℕ) → Top → (state inbox outbox out : List ℕ) → After
 answered a r u s i o w = onSession (decodeOf s) (λ x. answerKnown x a r u s i o w) s i o w

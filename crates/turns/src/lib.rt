@@ -1,4 +1,5 @@
-// One call on the session that bytes hold: it is read, the call is made, and it is written again.
+// One call on the session that bytes hold, or one answer: it is read, the call is made, and it is written again.
+use calls::Call;
 use fw::Turn;
 use pci::Answer;
 use session::Failure;
@@ -37,50 +38,28 @@ fn taken(t: Turn, state: &mut [u8], out: &mut [u8]) -> u32
     }
 }
 
-// Each call on a session that was read: 20 where it is not the time for it, then 21 where there is no room for what it says.
-fn open_of(
+// A call and an answer on a session that was read: 20 where it is not the time for it, then 21 where there is no room for what it says.
+fn call_of(
     s: Session,
+    call: Call,
+    input: &[u8],
     inbox: &mut [u8],
     outbox: &mut [u8],
     top: Top,
     state: &mut [u8],
     out: &mut [u8],
 ) -> u32
-    ensures { λ r. ⌜ r ≡ c.openKnown s top (now (state .entry)) (now (inbox .entry)) (now (outbox .entry)) (now (out .entry)) .code ⌝ }
-    ensures { λ _. ⌜ now (state .exit) ≡ c.openKnown s top (now (state .entry)) (now (inbox .entry)) (now (outbox .entry)) (now (out .entry)) .state ⌝ }
-    ensures { λ _. ⌜ now (inbox .exit) ≡ c.openKnown s top (now (state .entry)) (now (inbox .entry)) (now (outbox .entry)) (now (out .entry)) .inbox ⌝ }
-    ensures { λ _. ⌜ now (outbox .exit) ≡ c.openKnown s top (now (state .entry)) (now (inbox .entry)) (now (outbox .entry)) (now (out .entry)) .outbox ⌝ }
-    ensures { λ _. ⌜ now (out .exit) ≡ c.openKnown s top (now (state .entry)) (now (inbox .entry)) (now (outbox .entry)) (now (out .entry)) .out ⌝ }
+    ensures { λ r. ⌜ r ≡ c.callKnown s call (now (input .entry)) top (now (state .entry)) (now (inbox .entry)) (now (outbox .entry)) (now (out .entry)) .code ⌝ }
+    ensures { λ _. ⌜ now (state .exit) ≡ c.callKnown s call (now (input .entry)) top (now (state .entry)) (now (inbox .entry)) (now (outbox .entry)) (now (out .entry)) .state ⌝ }
+    ensures { λ _. ⌜ now (inbox .exit) ≡ c.callKnown s call (now (input .entry)) top (now (state .entry)) (now (inbox .entry)) (now (outbox .entry)) (now (out .entry)) .inbox ⌝ }
+    ensures { λ _. ⌜ now (outbox .exit) ≡ c.callKnown s call (now (input .entry)) top (now (state .entry)) (now (inbox .entry)) (now (outbox .entry)) (now (out .entry)) .outbox ⌝ }
+    ensures { λ _. ⌜ now (out .exit) ≡ c.callKnown s call (now (input .entry)) top (now (state .entry)) (now (inbox .entry)) (now (outbox .entry)) (now (out .entry)) .out ⌝ }
 {
-    if fw::openable(s) {
+    if calls::callable(s, call) {
         if out.len() < TURN {
             return SHORT;
         }
-        let t = fw::open(s, inbox, outbox, top);
-        return taken(t, state, out);
-    }
-    WRONG
-}
-
-fn close_of(
-    s: Session,
-    inbox: &mut [u8],
-    outbox: &mut [u8],
-    top: Top,
-    state: &mut [u8],
-    out: &mut [u8],
-) -> u32
-    ensures { λ r. ⌜ r ≡ c.closeKnown s top (now (state .entry)) (now (inbox .entry)) (now (outbox .entry)) (now (out .entry)) .code ⌝ }
-    ensures { λ _. ⌜ now (state .exit) ≡ c.closeKnown s top (now (state .entry)) (now (inbox .entry)) (now (outbox .entry)) (now (out .entry)) .state ⌝ }
-    ensures { λ _. ⌜ now (inbox .exit) ≡ c.closeKnown s top (now (state .entry)) (now (inbox .entry)) (now (outbox .entry)) (now (out .entry)) .inbox ⌝ }
-    ensures { λ _. ⌜ now (outbox .exit) ≡ c.closeKnown s top (now (state .entry)) (now (inbox .entry)) (now (outbox .entry)) (now (out .entry)) .outbox ⌝ }
-    ensures { λ _. ⌜ now (out .exit) ≡ c.closeKnown s top (now (state .entry)) (now (inbox .entry)) (now (outbox .entry)) (now (out .entry)) .out ⌝ }
-{
-    if fw::closable(s) {
-        if out.len() < TURN {
-            return SHORT;
-        }
-        let t = fw::close(s, inbox, outbox, top);
+        let t = calls::make(s, call, input, inbox, outbox, top);
         return taken(t, state, out);
     }
     WRONG
@@ -112,49 +91,27 @@ fn answer_of(
     WRONG
 }
 
-// Opens the session that the bytes hold.
-pub fn open_bytes(
+// Makes a call on the session that the bytes hold.
+pub fn call_bytes(
     state: &mut [u8],
+    call: Call,
+    input: &[u8],
     inbox: &mut [u8],
     outbox: &mut [u8],
     top: Top,
     out: &mut [u8],
 ) -> u32
-    ensures { λ r. ⌜ r ≡ c.opened top (now (state .entry)) (now (inbox .entry)) (now (outbox .entry)) (now (out .entry)) .code ⌝ }
-    ensures { λ _. ⌜ now (state .exit) ≡ c.opened top (now (state .entry)) (now (inbox .entry)) (now (outbox .entry)) (now (out .entry)) .state ⌝ }
-    ensures { λ _. ⌜ now (inbox .exit) ≡ c.opened top (now (state .entry)) (now (inbox .entry)) (now (outbox .entry)) (now (out .entry)) .inbox ⌝ }
-    ensures { λ _. ⌜ now (outbox .exit) ≡ c.opened top (now (state .entry)) (now (inbox .entry)) (now (outbox .entry)) (now (out .entry)) .outbox ⌝ }
-    ensures { λ _. ⌜ now (out .exit) ≡ c.opened top (now (state .entry)) (now (inbox .entry)) (now (outbox .entry)) (now (out .entry)) .out ⌝ }
+    ensures { λ r. ⌜ r ≡ c.called call (now (input .entry)) top (now (state .entry)) (now (inbox .entry)) (now (outbox .entry)) (now (out .entry)) .code ⌝ }
+    ensures { λ _. ⌜ now (state .exit) ≡ c.called call (now (input .entry)) top (now (state .entry)) (now (inbox .entry)) (now (outbox .entry)) (now (out .entry)) .state ⌝ }
+    ensures { λ _. ⌜ now (inbox .exit) ≡ c.called call (now (input .entry)) top (now (state .entry)) (now (inbox .entry)) (now (outbox .entry)) (now (out .entry)) .inbox ⌝ }
+    ensures { λ _. ⌜ now (outbox .exit) ≡ c.called call (now (input .entry)) top (now (state .entry)) (now (inbox .entry)) (now (outbox .entry)) (now (out .entry)) .outbox ⌝ }
+    ensures { λ _. ⌜ now (out .exit) ≡ c.called call (now (input .entry)) top (now (state .entry)) (now (inbox .entry)) (now (outbox .entry)) (now (out .entry)) .out ⌝ }
 {
     let d = words_session::decode(state);
     let kept = d.outcome;
     let s = d.session;
     match kept {
-        Kept::Good => open_of(s, inbox, outbox, top, state, out),
-        Kept::Short => SHORT,
-        Kept::NoSession => WRONG,
-    }
-}
-
-// Closes the session that the bytes hold.
-pub fn close_bytes(
-    state: &mut [u8],
-    inbox: &mut [u8],
-    outbox: &mut [u8],
-    top: Top,
-    out: &mut [u8],
-) -> u32
-    ensures { λ r. ⌜ r ≡ c.closed top (now (state .entry)) (now (inbox .entry)) (now (outbox .entry)) (now (out .entry)) .code ⌝ }
-    ensures { λ _. ⌜ now (state .exit) ≡ c.closed top (now (state .entry)) (now (inbox .entry)) (now (outbox .entry)) (now (out .entry)) .state ⌝ }
-    ensures { λ _. ⌜ now (inbox .exit) ≡ c.closed top (now (state .entry)) (now (inbox .entry)) (now (outbox .entry)) (now (out .entry)) .inbox ⌝ }
-    ensures { λ _. ⌜ now (outbox .exit) ≡ c.closed top (now (state .entry)) (now (inbox .entry)) (now (outbox .entry)) (now (out .entry)) .outbox ⌝ }
-    ensures { λ _. ⌜ now (out .exit) ≡ c.closed top (now (state .entry)) (now (inbox .entry)) (now (outbox .entry)) (now (out .entry)) .out ⌝ }
-{
-    let d = words_session::decode(state);
-    let kept = d.outcome;
-    let s = d.session;
-    match kept {
-        Kept::Good => close_of(s, inbox, outbox, top, state, out),
+        Kept::Good => call_of(s, call, input, inbox, outbox, top, state, out),
         Kept::Short => SHORT,
         Kept::NoSession => WRONG,
     }

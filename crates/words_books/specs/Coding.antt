@@ -18,7 +18,7 @@ use Rattle.session.specs.declared.Held.{Held}
 use Rattle.session.specs.declared.Wire.{Wire}
 use Rattle.words_books.specs.declared.Ledger.{Ledger}
 
--- what stopped the opening
+-- a refusal: its number, then its values
 abbrev pub refusalWords : Refusal → List ℕ
 refusalWords rv.Attributes = 0 ∷ 0 ∷ 0 ∷ []
 refusalWords rv.Owner = 1 ∷ 0 ∷ 0 ∷ []

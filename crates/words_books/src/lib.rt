@@ -22,8 +22,8 @@ pub struct Ledger {
     pub closing: Closing,
 }
 
-// What stopped the opening.
-fn refusal_words(v: Refusal) -> [u64; 3]
+// A refusal: its number, then its values.
+pub fn refusal_words(v: Refusal) -> [u64; 3]
     ensures { λ r. ⌜ r ≡ refusalWords v ⌝ }
 {
     match v {
@@ -53,7 +53,7 @@ fn refusal_words(v: Refusal) -> [u64; 3]
     }
 }
 
-fn refusal_from(tag: u64, a: u64, b: u64) -> Refusal
+pub fn refusal_from(tag: u64, a: u64, b: u64) -> Refusal
     ensures { λ r. ⌜ r ≡ refusalOf tag a b ⌝ }
 {
     match tag {
@@ -127,13 +127,13 @@ fn closing_from(tag: u64) -> Closing
 }
 
 // A buffer.
-fn buffer_words(v: Buffer) -> [u64; 3]
+pub fn buffer_words(v: Buffer) -> [u64; 3]
     ensures { λ r. ⌜ r ≡ bufferWords v ⌝ }
 {
     [v.handle, v.dev, v.pages]
 }
 
-fn buffer_from(a: u64, b: u64, d: u64) -> Buffer
+pub fn buffer_from(a: u64, b: u64, d: u64) -> Buffer
     ensures { λ r. ⌜ r ≡ bufferOf a b d ⌝ }
 {
     Buffer {

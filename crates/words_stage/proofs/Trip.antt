@@ -11,8 +11,11 @@ use Rattle.words.proofs.Laws.{Words, words-at, bit-back, bit-small, cut-back}
 use Rattle.words_task.specs.Coding.{faultWords, faultOf}
 use Rattle.words_task.specs.Fits.{FaultFits}
 use Rattle.words_task.proofs.Trip.{fault-back, fault-small}
-use Rattle.words_stage.specs.Coding.{virtWords, virtOf, cutterWords, cutterOf, areaWords, areaOf, prepareWords, prepareOf, bootWords, bootOf, closeWords, closeOf, stageWords, stageOf}
-use Rattle.words_stage.specs.Fits.{VirtFits, CutterFits, AreaFits, PrepareFits, BootFits, CloseFits, StageFits}
+use Rattle.words_books.specs.Coding.{bufferWords, refusalWords}
+use Rattle.words_books.specs.Fits.{BufferFits, RefusalFits}
+use Rattle.words_books.proofs.Trip.{buffer-back, buffer-small, refusal-back, refusal-small}
+use Rattle.words_stage.specs.Coding.{virtWords, virtOf, cutterWords, cutterOf, areaWords, areaOf, prepareWords, prepareOf, bootWords, bootOf, closeWords, closeOf, formWords, formOf, clientWords, clientOf, gaveWords, gaveOf, stageWords, stageOf}
+use Rattle.words_stage.specs.Fits.{VirtFits, CutterFits, AreaFits, PrepareFits, BootFits, CloseFits, FormFits, ClientFits, GaveFits, StageFits}
 use Rattle.dma.specs.declared.Virt.{Virt}
 use Rattle.dma.specs.declared.Virt.the-variants as vv
 use Rattle.dma.specs.declared.Cutter.{Cutter}
@@ -24,6 +27,12 @@ use Rattle.session.specs.declared.Boot.{Boot}
 use Rattle.session.specs.declared.Boot.the-variants as bv
 use Rattle.session.specs.declared.Close.{Close}
 use Rattle.session.specs.declared.Close.the-variants as cv
+use Rattle.session.specs.declared.Form.{Form}
+use Rattle.session.specs.declared.Form.the-variants as fv
+use Rattle.session.specs.declared.Client.{Client}
+use Rattle.session.specs.declared.Client.the-variants as lv
+use Rattle.session.specs.declared.Gave.{Gave}
+use Rattle.session.specs.declared.Gave.the-variants as gv
 use Rattle.session.specs.declared.Stage.{Stage}
 use Rattle.session.specs.declared.Stage.the-variants as sv
 
@@ -117,6 +126,7 @@ close-back cv.FreeInbox f = refl
 close-back cv.FreeOutbox f = refl
 close-back cv.Release f = refl
 close-back cv.Restore f = refl
+close-back cv.Quiesce f = refl
 
 pub close-small : (v : Close) → CloseFits v → Words (closeWords v)
 unfolding Words
@@ -134,28 +144,71 @@ close-small cv.FreeInbox f = (lit< tt, (lit< tt, tt))
 close-small cv.FreeOutbox f = (lit< tt, (lit< tt, tt))
 close-small cv.Release f = (lit< tt, (lit< tt, tt))
 close-small cv.Restore f = (lit< tt, (lit< tt, tt))
+close-small cv.Quiesce f = (lit< tt, (lit< tt, tt))
+
+pub form-back : (v : Form) → FormFits v → formOf (at (formWords v) 0) ≡ v
+form-back fv.Imm f = refl
+form-back fv.WithIn f = refl
+form-back fv.WithOut f = refl
+form-back fv.InImm f = refl
+form-back fv.InOut f = refl
+
+pub form-small : (v : Form) → FormFits v → Words (formWords v)
+unfolding Words
+form-small fv.Imm f = (lit< tt, tt)
+form-small fv.WithIn f = (lit< tt, tt)
+form-small fv.WithOut f = (lit< tt, tt)
+form-small fv.InImm f = (lit< tt, tt)
+form-small fv.InOut f = (lit< tt, tt)
+
+pub client-back : (v : Client) → ClientFits v → clientOf (at (clientWords v) 0) (at (clientWords v) 1) (at (clientWords v) 2) ≡ v
+client-back (lv.Command x) f = ap lv.Command (form-back x f)
+client-back lv.Lend f = refl
+client-back (lv.UndoTo x y) f = simp (mod-eq-of-lt (f .1))
+
+pub client-small : (v : Client) → ClientFits v → Words (clientWords v)
+unfolding Words
+client-small (lv.Command x) f = (lit< tt, (words-at (formWords x) (form-small x f) 0, (lit< tt, tt)))
+client-small lv.Lend f = (lit< tt, (lit< tt, (lit< tt, tt)))
+client-small (lv.UndoTo x y) f = (lit< tt, (f .0, (omega (arith, (f .1)), tt)))
+
+pub gave-back : (v : Gave) → GaveFits v → gaveOf (at (gaveWords v) 0) (at (gaveWords v) 1) (at (gaveWords v) 2) (at (gaveWords v) 3) ≡ v
+gave-back gv.Nothing f = refl
+gave-back (gv.Command x y) f = refl
+gave-back (gv.Lent x) f = ap gv.Lent (buffer-back x f)
+gave-back (gv.Failed x) f = ap gv.Failed (refusal-back x f)
+
+pub gave-small : (v : Gave) → GaveFits v → Words (gaveWords v)
+unfolding Words
+gave-small gv.Nothing f = (lit< tt, (lit< tt, (lit< tt, (lit< tt, tt))))
+gave-small (gv.Command x y) f = (lit< tt, (f .0, (f .1, (lit< tt, tt))))
+gave-small (gv.Lent x) f = (lit< tt, (words-at (bufferWords x) (buffer-small x f) 0, (words-at (bufferWords x) (buffer-small x f) 1, (words-at (bufferWords x) (buffer-small x f) 2, tt))))
+gave-small (gv.Failed x) f = (lit< tt, (words-at (refusalWords x) (refusal-small x f) 0, (words-at (refusalWords x) (refusal-small x f) 1, (words-at (refusalWords x) (refusal-small x f) 2, tt))))
 
 pub stage-back : (v : Stage) → StageFits v → stageOf (stageWords v) ≡ v
 stage-back sv.Fresh f = refl
-stage-back sv.Open f = refl
+stage-back (sv.Open x) f = ap sv.Open (gave-back x f)
 stage-back sv.Ended f = refl
 stage-back (sv.Prepare x) f = ap sv.Prepare (prepare-back x f)
 stage-back (sv.Boot x) f = ap sv.Boot (boot-back x f)
 stage-back (sv.Close x) f = ap sv.Close (close-back x f)
+stage-back (sv.Client x) f = ap sv.Client (client-back x f)
 
 pub stage-small : (v : Stage) → StageFits v → Words (stageWords v)
 unfolding Words
 stage-small sv.Fresh f = (lit< tt, (lit< tt, (lit< tt, (lit< tt, (lit< tt, (lit< tt, (lit< tt, (lit< tt, tt))))))))
-stage-small sv.Open f = (lit< tt, (lit< tt, (lit< tt, (lit< tt, (lit< tt, (lit< tt, (lit< tt, (lit< tt, tt))))))))
+stage-small (sv.Open x) f = (lit< tt, (words-at (gaveWords x) (gave-small x f) 0, (words-at (gaveWords x) (gave-small x f) 1, (words-at (gaveWords x) (gave-small x f) 2, (words-at (gaveWords x) (gave-small x f) 3, (lit< tt, (lit< tt, (lit< tt, tt))))))))
 stage-small sv.Ended f = (lit< tt, (lit< tt, (lit< tt, (lit< tt, (lit< tt, (lit< tt, (lit< tt, (lit< tt, tt))))))))
 stage-small (sv.Prepare x) f = (lit< tt, (words-at (prepareWords x) (prepare-small x f) 0, (words-at (prepareWords x) (prepare-small x f) 1, (lit< tt, (lit< tt, (lit< tt, (lit< tt, (lit< tt, tt))))))))
 stage-small (sv.Boot x) f = (lit< tt, (words-at (bootWords x) (boot-small x f) 0, (words-at (bootWords x) (boot-small x f) 1, (words-at (bootWords x) (boot-small x f) 2, (words-at (bootWords x) (boot-small x f) 3, (words-at (bootWords x) (boot-small x f) 4, (words-at (bootWords x) (boot-small x f) 5, (words-at (bootWords x) (boot-small x f) 6, tt))))))))
 stage-small (sv.Close x) f = (lit< tt, (words-at (closeWords x) (close-small x f) 0, (words-at (closeWords x) (close-small x f) 1, (lit< tt, (lit< tt, (lit< tt, (lit< tt, (lit< tt, tt))))))))
+stage-small (sv.Client x) f = (lit< tt, (words-at (clientWords x) (client-small x f) 0, (words-at (clientWords x) (client-small x f) 1, (words-at (clientWords x) (client-small x f) 2, (lit< tt, (lit< tt, (lit< tt, (lit< tt, tt))))))))
 
 pub stage-length : (v : Stage) → length (stageWords v) ≡ 8
 stage-length sv.Fresh = refl
-stage-length sv.Open = refl
+stage-length (sv.Open x) = refl
 stage-length sv.Ended = refl
 stage-length (sv.Prepare x) = refl
 stage-length (sv.Boot x) = refl
 stage-length (sv.Close x) = refl
+stage-length (sv.Client x) = refl

@@ -5,6 +5,7 @@ use lib.Dec.{eqb}
 use Rattle.fields.specs.Outcome.{pick}
 use Rattle.words.specs.Words.{at}
 use Rattle.words_task.specs.Coding.{faultWords, faultOf}
+use Rattle.words_books.specs.Coding.{bufferWords, bufferOf, refusalWords, refusalOf}
 use Rattle.dma.specs.declared.Virt.{Virt}
 use Rattle.dma.specs.declared.Virt.the-variants as vv
 use Rattle.dma.specs.declared.Cutter.{Cutter}
@@ -16,6 +17,12 @@ use Rattle.session.specs.declared.Boot.{Boot}
 use Rattle.session.specs.declared.Boot.the-variants as bv
 use Rattle.session.specs.declared.Close.{Close}
 use Rattle.session.specs.declared.Close.the-variants as cv
+use Rattle.session.specs.declared.Form.{Form}
+use Rattle.session.specs.declared.Form.the-variants as fv
+use Rattle.session.specs.declared.Client.{Client}
+use Rattle.session.specs.declared.Client.the-variants as lv
+use Rattle.session.specs.declared.Gave.{Gave}
+use Rattle.session.specs.declared.Gave.the-variants as gv
 use Rattle.session.specs.declared.Stage.{Stage}
 use Rattle.session.specs.declared.Stage.the-variants as sv
 
@@ -118,6 +125,7 @@ closeWords cv.FreeInbox = 10 ∷ 0 ∷ []
 closeWords cv.FreeOutbox = 11 ∷ 0 ∷ []
 closeWords cv.Release = 12 ∷ 0 ∷ []
 closeWords cv.Restore = 13 ∷ 0 ∷ []
+closeWords cv.Quiesce = 14 ∷ 0 ∷ []
 
 abbrev pub closeOf : (tag a : ℕ) → Close
 closeOf tag a =
@@ -134,22 +142,67 @@ closeOf tag a =
     pick (eqb tag 11) cv.FreeOutbox (
     pick (eqb tag 12) cv.Release (
     pick (eqb tag 13) cv.Restore (
-    cv.Undo (a % 4294967296))))))))))))))
+    pick (eqb tag 14) cv.Quiesce (
+    cv.Undo (a % 4294967296)))))))))))))))
+
+-- the form of a client's command
+abbrev pub formWords : Form → List ℕ
+formWords fv.Imm = 0 ∷ []
+formWords fv.WithIn = 1 ∷ []
+formWords fv.WithOut = 2 ∷ []
+formWords fv.InImm = 3 ∷ []
+formWords fv.InOut = 4 ∷ []
+
+abbrev pub formOf : (tag : ℕ) → Form
+formOf tag =
+    pick (eqb tag 1) fv.WithIn (
+    pick (eqb tag 2) fv.WithOut (
+    pick (eqb tag 3) fv.InImm (
+    pick (eqb tag 4) fv.InOut (
+    fv.Imm))))
+
+-- what a task is for, in a client's call
+abbrev pub clientWords : Client → List ℕ
+clientWords (lv.Command x) = 0 ∷ at (formWords x) 0 ∷ 0 ∷ []
+clientWords lv.Lend = 1 ∷ 0 ∷ 0 ∷ []
+clientWords (lv.UndoTo x y) = 2 ∷ x ∷ y ∷ []
+
+abbrev pub clientOf : (tag a b : ℕ) → Client
+clientOf tag a b =
+    pick (eqb tag 1) lv.Lend (
+    pick (eqb tag 2) (lv.UndoTo a (b % 4294967296)) (
+    lv.Command (formOf a)))
+
+-- what the last call on an open session gave
+abbrev pub gaveWords : Gave → List ℕ
+gaveWords gv.Nothing = 0 ∷ 0 ∷ 0 ∷ 0 ∷ []
+gaveWords (gv.Command x y) = 1 ∷ x ∷ y ∷ 0 ∷ []
+gaveWords (gv.Lent x) = 2 ∷ at (bufferWords x) 0 ∷ at (bufferWords x) 1 ∷ at (bufferWords x) 2 ∷ []
+gaveWords (gv.Failed x) = 3 ∷ at (refusalWords x) 0 ∷ at (refusalWords x) 1 ∷ at (refusalWords x) 2 ∷ []
+
+abbrev pub gaveOf : (tag a b d : ℕ) → Gave
+gaveOf tag a b d =
+    pick (eqb tag 1) (gv.Command a b) (
+    pick (eqb tag 2) (gv.Lent (bufferOf a b d)) (
+    pick (eqb tag 3) (gv.Failed (refusalOf a b d)) (
+    gv.Nothing)))
 
 -- how far the session has come
 abbrev pub stageWords : Stage → List ℕ
 stageWords sv.Fresh = 0 ∷ 0 ∷ 0 ∷ 0 ∷ 0 ∷ 0 ∷ 0 ∷ 0 ∷ []
-stageWords sv.Open = 1 ∷ 0 ∷ 0 ∷ 0 ∷ 0 ∷ 0 ∷ 0 ∷ 0 ∷ []
+stageWords (sv.Open x) = 1 ∷ at (gaveWords x) 0 ∷ at (gaveWords x) 1 ∷ at (gaveWords x) 2 ∷ at (gaveWords x) 3 ∷ 0 ∷ 0 ∷ 0 ∷ []
 stageWords sv.Ended = 2 ∷ 0 ∷ 0 ∷ 0 ∷ 0 ∷ 0 ∷ 0 ∷ 0 ∷ []
 stageWords (sv.Prepare x) = 3 ∷ at (prepareWords x) 0 ∷ at (prepareWords x) 1 ∷ 0 ∷ 0 ∷ 0 ∷ 0 ∷ 0 ∷ []
 stageWords (sv.Boot x) = 4 ∷ at (bootWords x) 0 ∷ at (bootWords x) 1 ∷ at (bootWords x) 2 ∷ at (bootWords x) 3 ∷ at (bootWords x) 4 ∷ at (bootWords x) 5 ∷ at (bootWords x) 6 ∷ []
 stageWords (sv.Close x) = 5 ∷ at (closeWords x) 0 ∷ at (closeWords x) 1 ∷ 0 ∷ 0 ∷ 0 ∷ 0 ∷ 0 ∷ []
+stageWords (sv.Client x) = 6 ∷ at (clientWords x) 0 ∷ at (clientWords x) 1 ∷ at (clientWords x) 2 ∷ 0 ∷ 0 ∷ 0 ∷ 0 ∷ []
 
 abbrev pub stageOf : List ℕ → Stage
 stageOf w =
-    pick (eqb (at w 0) 1) sv.Open (
+    pick (eqb (at w 0) 1) (sv.Open (gaveOf (at w 1) (at w 2) (at w 3) (at w 4))) (
     pick (eqb (at w 0) 2) sv.Ended (
     pick (eqb (at w 0) 3) (sv.Prepare (prepareOf (at w 1) (at w 2))) (
     pick (eqb (at w 0) 4) (sv.Boot (bootOf (at w 1) (at w 2) (at w 3) (at w 4) (at w 5) (at w 6) (at w 7))) (
     pick (eqb (at w 0) 5) (sv.Close (closeOf (at w 1) (at w 2))) (
-    sv.Fresh)))))
+    pick (eqb (at w 0) 6) (sv.Client (clientOf (at w 1) (at w 2) (at w 3))) (
+    sv.Fresh))))))

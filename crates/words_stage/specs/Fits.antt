@@ -4,6 +4,7 @@ use mathlib.Core.Path.{_≡_}
 use lib.ListN.{length}
 use Rattle.words.specs.Words.{Below}
 use Rattle.words_task.specs.Fits.{FaultFits}
+use Rattle.words_books.specs.Fits.{BufferFits, RefusalFits}
 use Rattle.dma.specs.declared.Virt.{Virt}
 use Rattle.dma.specs.declared.Virt.the-variants as vv
 use Rattle.dma.specs.declared.Cutter.{Cutter}
@@ -15,6 +16,12 @@ use Rattle.session.specs.declared.Boot.{Boot}
 use Rattle.session.specs.declared.Boot.the-variants as bv
 use Rattle.session.specs.declared.Close.{Close}
 use Rattle.session.specs.declared.Close.the-variants as cv
+use Rattle.session.specs.declared.Form.{Form}
+use Rattle.session.specs.declared.Form.the-variants as fv
+use Rattle.session.specs.declared.Client.{Client}
+use Rattle.session.specs.declared.Client.the-variants as lv
+use Rattle.session.specs.declared.Gave.{Gave}
+use Rattle.session.specs.declared.Gave.the-variants as gv
 use Rattle.session.specs.declared.Stage.{Stage}
 use Rattle.session.specs.declared.Stage.the-variants as sv
 
@@ -70,11 +77,31 @@ CloseFits cv.FreeInbox = Unit {0}
 CloseFits cv.FreeOutbox = Unit {0}
 CloseFits cv.Release = Unit {0}
 CloseFits cv.Restore = Unit {0}
+CloseFits cv.Quiesce = Unit {0}
+
+abbrev pub FormFits : Form → Type 0
+FormFits fv.Imm = Unit {0}
+FormFits fv.WithIn = Unit {0}
+FormFits fv.WithOut = Unit {0}
+FormFits fv.InImm = Unit {0}
+FormFits fv.InOut = Unit {0}
+
+abbrev pub ClientFits : Client → Type 0
+ClientFits (lv.Command x) = FormFits x
+ClientFits lv.Lend = Unit {0}
+ClientFits (lv.UndoTo x y) = (x < 2 ^ 64) × (y < 2 ^ 32)
+
+abbrev pub GaveFits : Gave → Type 0
+GaveFits gv.Nothing = Unit {0}
+GaveFits (gv.Command x y) = (x < 2 ^ 64) × (y < 2 ^ 64)
+GaveFits (gv.Lent x) = BufferFits x
+GaveFits (gv.Failed x) = RefusalFits x
 
 abbrev pub StageFits : Stage → Type 0
 StageFits sv.Fresh = Unit {0}
-StageFits sv.Open = Unit {0}
+StageFits (sv.Open x) = GaveFits x
 StageFits sv.Ended = Unit {0}
 StageFits (sv.Prepare x) = PrepareFits x
 StageFits (sv.Boot x) = BootFits x
 StageFits (sv.Close x) = CloseFits x
+StageFits (sv.Client x) = ClientFits x

@@ -3,12 +3,16 @@ use dma::Cutter;
 use dma::Virt;
 use session::Area;
 use session::Boot;
+use session::Client;
 use session::Close;
+use session::Form;
+use session::Gave;
 use session::Prepare;
 use session::Stage;
 ghost use mathlib.Core.Path.{_≡_};
 ghost use Rattle.words_stage.specs.Coding.{virtWords, virtOf, cutterWords, cutterOf, areaWords, areaOf, prepareWords, prepareOf};
-ghost use Rattle.words_stage.specs.Coding.{bootWords, bootOf, closeWords, closeOf, stageWords, stageOf};
+ghost use Rattle.words_stage.specs.Coding.{bootWords, bootOf, closeWords, closeOf, formWords, formOf, clientWords, clientOf, gaveWords, gaveOf};
+ghost use Rattle.words_stage.specs.Coding.{stageWords, stageOf};
 
 // A card address, or none.
 fn virt_words(v: Virt) -> [u64; 2]
@@ -166,6 +170,7 @@ fn close_words(v: Close) -> [u64; 2]
         Close::FreeOutbox => [11, 0],
         Close::Release => [12, 0],
         Close::Restore => [13, 0],
+        Close::Quiesce => [14, 0],
     }
 }
 
@@ -186,7 +191,86 @@ fn close_from(tag: u64, a: u64) -> Close
         11 => Close::FreeOutbox,
         12 => Close::Release,
         13 => Close::Restore,
+        14 => Close::Quiesce,
         _ => Close::Undo(words::narrow32(a)),
+    }
+}
+
+// The form of a client's command.
+fn form_words(v: Form) -> [u64; 1]
+    ensures { λ r. ⌜ r ≡ formWords v ⌝ }
+{
+    match v {
+        Form::Imm => [0],
+        Form::WithIn => [1],
+        Form::WithOut => [2],
+        Form::InImm => [3],
+        Form::InOut => [4],
+    }
+}
+
+fn form_from(tag: u64) -> Form
+    ensures { λ r. ⌜ r ≡ formOf tag ⌝ }
+{
+    match tag {
+        1 => Form::WithIn,
+        2 => Form::WithOut,
+        3 => Form::InImm,
+        4 => Form::InOut,
+        _ => Form::Imm,
+    }
+}
+
+// What a task is for, in a client's call.
+fn client_words(v: Client) -> [u64; 3]
+    ensures { λ r. ⌜ r ≡ clientWords v ⌝ }
+{
+    match v {
+        Client::Command(x) => {
+            let w = form_words(x);
+            [0, w[0], 0]
+        }
+        Client::Lend => [1, 0, 0],
+        Client::UndoTo(x, y) => [2, words::long(x), words::wide32(y)],
+    }
+}
+
+fn client_from(tag: u64, a: u64, b: u64) -> Client
+    ensures { λ r. ⌜ r ≡ clientOf tag a b ⌝ }
+{
+    match tag {
+        1 => Client::Lend,
+        2 => Client::UndoTo(words::size(a), words::narrow32(b)),
+        _ => Client::Command(form_from(a)),
+    }
+}
+
+// What the last call on an open session gave.
+fn gave_words(v: Gave) -> [u64; 4]
+    ensures { λ r. ⌜ r ≡ gaveWords v ⌝ }
+{
+    match v {
+        Gave::Nothing => [0, 0, 0, 0],
+        Gave::Command(x, y) => [1, x, y, 0],
+        Gave::Lent(x) => {
+            let w = words_books::buffer_words(x);
+            [2, w[0], w[1], w[2]]
+        }
+        Gave::Failed(x) => {
+            let w = words_books::refusal_words(x);
+            [3, w[0], w[1], w[2]]
+        }
+    }
+}
+
+fn gave_from(tag: u64, a: u64, b: u64, d: u64) -> Gave
+    ensures { λ r. ⌜ r ≡ gaveOf tag a b d ⌝ }
+{
+    match tag {
+        1 => Gave::Command(a, b),
+        2 => Gave::Lent(words_books::buffer_from(a, b, d)),
+        3 => Gave::Failed(words_books::refusal_from(a, b, d)),
+        _ => Gave::Nothing,
     }
 }
 
@@ -196,7 +280,10 @@ pub fn stage_words(v: Stage) -> [u64; 8]
 {
     match v {
         Stage::Fresh => [0, 0, 0, 0, 0, 0, 0, 0],
-        Stage::Open => [1, 0, 0, 0, 0, 0, 0, 0],
+        Stage::Open(x) => {
+            let w = gave_words(x);
+            [1, w[0], w[1], w[2], w[3], 0, 0, 0]
+        }
         Stage::Ended => [2, 0, 0, 0, 0, 0, 0, 0],
         Stage::Prepare(x) => {
             let w = prepare_words(x);
@@ -210,6 +297,10 @@ pub fn stage_words(v: Stage) -> [u64; 8]
             let w = close_words(x);
             [5, w[0], w[1], 0, 0, 0, 0, 0]
         }
+        Stage::Client(x) => {
+            let w = client_words(x);
+            [6, w[0], w[1], w[2], 0, 0, 0, 0]
+        }
     }
 }
 
@@ -218,11 +309,12 @@ pub fn stage_from(w: [u64; 8]) -> Stage
 {
     let tag = w[0];
     match tag {
-        1 => Stage::Open,
+        1 => Stage::Open(gave_from(w[1], w[2], w[3], w[4])),
         2 => Stage::Ended,
         3 => Stage::Prepare(prepare_from(w[1], w[2])),
         4 => Stage::Boot(boot_from(w[1], w[2], w[3], w[4], w[5], w[6], w[7])),
         5 => Stage::Close(close_from(w[1], w[2])),
+        6 => Stage::Client(client_from(w[1], w[2], w[3])),
         _ => Stage::Fresh,
     }
 }

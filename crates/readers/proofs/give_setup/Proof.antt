@@ -8,13 +8,13 @@ returns : tie.Need-returns
 unfolding setupKnown
 returns c = (
   simp (
-    ← (c .before .before .closable .ensures),
+    ← (c .before .before .is-idle .ensures),
     c .before .if1 .taken,
     lt-ltb _ _ (c .if2 .taken),
     lt-leb _ _ (c .if2 .taken),
   ),
   simp (
-    ← (c .before .before .closable .ensures),
+    ← (c .before .before .is-idle .ensures),
     c .before .if1 .taken,
     lt-ltb _ _ (c .if2 .taken),
     lt-leb _ _ (c .if2 .taken),
@@ -25,14 +25,14 @@ returns-2 : tie.Need-returns-2
 unfolding setupKnown
 returns-2 c = (
   simp (
-    ← (c .before .before .before .before .before .before .closable .ensures),
+    ← (c .before .before .before .before .before .before .is-idle .ensures),
     c .before .before .before .before .before .if1 .taken,
     le-leb _ _ (c .before .before .before .before .if2 .left),
     le-ltb _ _ (c .before .before .before .before .if2 .left),
     c .before .before .put-setup .ensures,
   ),
   simp (
-    ← (c .before .before .before .before .before .before .closable .ensures),
+    ← (c .before .before .before .before .before .before .is-idle .ensures),
     c .before .before .before .before .before .if1 .taken,
     le-leb _ _ (c .before .before .before .before .if2 .left),
     le-ltb _ _ (c .before .before .before .before .if2 .left),
@@ -44,11 +44,11 @@ returns-3 : tie.Need-returns-3
 unfolding setupKnown
 returns-3 c = (
   simp (
-    ← (c .before .closable .ensures),
+    ← (c .before .is-idle .ensures),
     c .if1 .left,
   ),
   simp (
-    ← (c .before .closable .ensures),
+    ← (c .before .is-idle .ensures),
     c .if1 .left,
   ),
 )

@@ -52,7 +52,11 @@ returns-13 : tie.Need-returns-13
 returns-13 c = simp (c .match .keys13)
 
 returns-14 : tie.Need-returns-14
-returns-14 c = simp (
+returns-14 c = simp (c .match .keys14)
+
+returns-15 : tie.Need-returns-15
+returns-15 c = simp (
+  ne-eqb _ _ (c .before .match .rest .0 .0 .0 .0 .0 .0 .0 .0 .0 .0 .0 .0 .0 .1),
   ne-eqb _ _ (c .before .match .rest .0 .0 .0 .0 .0 .0 .0 .0 .0 .0 .0 .0 .1),
   ne-eqb _ _ (c .before .match .rest .0 .0 .0 .0 .0 .0 .0 .0 .0 .0 .0 .1),
   ne-eqb _ _ (c .before .match .rest .0 .0 .0 .0 .0 .0 .0 .0 .0 .0 .1),
@@ -90,4 +94,5 @@ close-from-spec =
     returns-11
     returns-12
     returns-13
-    returns-14)
+    returns-14
+    returns-15)

@@ -56,6 +56,9 @@ returns-13 c = simp (c .enum-told9 .given .1)
 returns-14 : tie.Need-returns-14
 returns-14 c = simp (c .enum-told10 .given .1)
 
+returns-15 : tie.Need-returns-15
+returns-15 c = simp (c .enum-told11 .given .1)
+
 pub close-words-spec : {M : Type 1} → statement M
 close-words-spec =
     tie.close
@@ -78,6 +81,7 @@ close-words-spec =
     (λ c. search needs)
     (λ c. search needs)
     (λ c. search needs)
+    (λ c. search needs)
     returns
     returns-2
     returns-3
@@ -91,4 +95,5 @@ close-words-spec =
     returns-11
     returns-12
     returns-13
-    returns-14)
+    returns-14
+    returns-15)

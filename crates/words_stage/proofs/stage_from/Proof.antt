@@ -4,7 +4,10 @@ use Rattle.words_stage.proofs.stage_from.Statement.{statement}
 use Rattle.words_stage.proofs.stage_from.Tie as tie
 
 returns : tie.Need-returns
-returns c = simp (c .match .keys1)
+returns c = simp (
+  c .before .match .keys1,
+  c .gave-from .ensures,
+)
 
 returns-2 : tie.Need-returns-2
 returns-2 c = simp (c .match .keys2)
@@ -29,6 +32,13 @@ returns-5 c = simp (
 
 returns-6 : tie.Need-returns-6
 returns-6 c = simp (
+  c .before .match .keys6,
+  c .client-from .ensures,
+)
+
+returns-7 : tie.Need-returns-7
+returns-7 c = simp (
+  ne-eqb _ _ (c .match .rest .0 .0 .0 .0 .0 .1),
   ne-eqb _ _ (c .match .rest .0 .0 .0 .0 .1),
   ne-eqb _ _ (c .match .rest .0 .0 .0 .1),
   ne-eqb _ _ (c .match .rest .0 .0 .1),
@@ -43,6 +53,11 @@ stage-from-spec =
     (λ c. search needs)
     (λ c. search needs)
     (λ c. search needs)
+    (λ c. search needs)
+    (λ c. search needs)
+    (λ c κs. search needs)
+    (λ c. search needs)
+    (λ c. search needs)
     (λ c κs. search needs)
     (λ c. search needs)
     (λ c. search needs)
@@ -52,6 +67,10 @@ stage-from-spec =
     (λ c. search needs)
     (λ c. search needs)
     (λ c κs. search needs)
+    (λ c. search needs)
+    (λ c. search needs)
+    (λ c κs. search needs)
+    (λ c. search needs)
     (λ c. search needs)
     (λ c. search needs)
     (λ c κs. search needs)
@@ -60,4 +79,5 @@ stage-from-spec =
     returns-3
     returns-4
     returns-5
-    returns-6)
+    returns-6
+    returns-7)

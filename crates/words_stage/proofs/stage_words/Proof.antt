@@ -6,27 +6,36 @@ returns : tie.Need-returns
 returns c = simp (c .enum-told .given .1)
 
 returns-2 : tie.Need-returns-2
-returns-2 c = simp (c .enum-told2 .given .1)
+returns-2 c = simp (
+  c .before .before .v .given .1,
+  c .gave-words .ensures,
+)
 
 returns-3 : tie.Need-returns-3
-returns-3 c = simp (c .enum-told3 .given .1)
+returns-3 c = simp (c .enum-told2 .given .1)
 
 returns-4 : tie.Need-returns-4
 returns-4 c = simp (
-  c .before .before .v .given .1,
+  c .before .before .v2 .given .1,
   c .prepare-words .ensures,
 )
 
 returns-5 : tie.Need-returns-5
 returns-5 c = simp (
-  c .before .before .v2 .given .1,
+  c .before .before .v3 .given .1,
   c .boot-words .ensures,
 )
 
 returns-6 : tie.Need-returns-6
 returns-6 c = simp (
-  c .before .before .v3 .given .1,
+  c .before .before .v4 .given .1,
   c .close-words .ensures,
+)
+
+returns-7 : tie.Need-returns-7
+returns-7 c = simp (
+  c .before .before .v5 .given .1,
+  c .client-words .ensures,
 )
 
 pub stage-words-spec : {M : Type 1} → statement M
@@ -35,6 +44,11 @@ stage-words-spec =
     (tie.spec
     (λ c. search needs)
     (λ c. search needs)
+    (λ c κs. search needs)
+    (λ c. search needs)
+    (λ c. search needs)
+    (λ c. search needs)
+    (λ c. search needs)
     (λ c. search needs)
     (λ c. search needs)
     (λ c κs. search needs)
@@ -51,6 +65,11 @@ stage-words-spec =
     (λ c. search needs)
     (λ c. search needs)
     (λ c κs. search needs)
+    (λ c. search needs)
+    (λ c. search needs)
+    (λ c. search needs)
+    (λ c κs. search needs)
+    (λ c. search needs)
     (λ c. search needs)
     (λ c. search needs)
     returns
@@ -58,4 +77,5 @@ stage-words-spec =
     returns-3
     returns-4
     returns-5
-    returns-6)
+    returns-6
+    returns-7)

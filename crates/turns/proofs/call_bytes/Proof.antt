@@ -1,32 +1,32 @@
 use borrow.Author.Needs.{needs}
 use Rattle.turns.proofs.Laws.{good, on}
-use Rattle.turns.specs.Turns.{After, closeKnown}
+use Rattle.turns.specs.Turns.{After, callKnown}
 use Rattle.fields.specs.Outcome.{value}
 use mathlib.Core.Path.{ap, _∙_}
-use Rattle.turns.specs.Turns.{closed}
-use Rattle.turns.proofs.close_bytes.Statement.{statement}
-use Rattle.turns.proofs.close_bytes.Tie as tie
+use Rattle.turns.specs.Turns.{called}
+use Rattle.turns.proofs.call_bytes.Statement.{statement}
+use Rattle.turns.proofs.call_bytes.Tie as tie
 
 returns : tie.Need-returns
-unfolding closed
+unfolding called
 returns c =
-    let p = c .before .before .before .before .before .before .before .before .before .before .before .before .before .before .before .before .before .before .before .before .before .before .args in
-    let g = on (value (c .before .before .before .before .before .before .before .before .before .before .before .before .before .before .before .before .decode .result .session)) (λ x. closeKnown x (p .top) (p .state .now) (p .inbox .now) (p .outbox .now) (p .out .now)) (p .state .now) (p .inbox .now) (p .outbox .now) (p .out .now) (good (c .before .before .before .before .before .before .before .before .before .before .before .before .before .before .before .before .decode .result) (p .state .now) (c .before .before .before .before .before .before .before .before .before .before .before .before .before .before .before .before .decode .ensures) (c .before .before .before .before .before .before .before .before .before .before .before .before .before .enum-told .given .1)) in (
-      c .before .before .before .before .before .before .before .before .close-of .ensures .0 ∙ ap (λ (a : After). a .code) g,
+    let p = c .before .before .before .before .before .before .before .before .before .before .before .before .before .before .before .before .before .before .before .before .before .before .before .args in
+    let g = on (value (c .before .before .before .before .before .before .before .before .before .before .before .before .before .before .before .before .decode .result .session)) (λ x. callKnown x (p .call) (p .input .now) (p .top) (p .state .now) (p .inbox .now) (p .outbox .now) (p .out .now)) (p .state .now) (p .inbox .now) (p .outbox .now) (p .out .now) (good (c .before .before .before .before .before .before .before .before .before .before .before .before .before .before .before .before .decode .result) (p .state .now) (c .before .before .before .before .before .before .before .before .before .before .before .before .before .before .before .before .decode .ensures) (c .before .before .before .before .before .before .before .before .before .before .before .before .before .enum-told .given .1)) in (
+      c .before .before .before .before .before .before .before .before .call-of .ensures .0 ∙ ap (λ (a : After). a .code) g,
       (
-        c .before .before .before .before .before .before .before .before .close-of .ensures .1 .0 ∙ ap (λ (a : After). a .state) g,
+        c .before .before .before .before .before .before .before .before .call-of .ensures .1 .0 ∙ ap (λ (a : After). a .state) g,
         (
-          c .before .before .before .before .before .before .before .before .close-of .ensures .1 .1 .0 ∙ ap (λ (a : After). a .inbox) g,
+          c .before .before .before .before .before .before .before .before .call-of .ensures .1 .1 .0 ∙ ap (λ (a : After). a .inbox) g,
           (
-            c .before .before .before .before .before .before .before .before .close-of .ensures .1 .1 .1 .0 ∙ ap (λ (a : After). a .outbox) g,
-            c .before .before .before .before .before .before .before .before .close-of .ensures .1 .1 .1 .1 ∙ ap (λ (a : After). a .out) g,
+            c .before .before .before .before .before .before .before .before .call-of .ensures .1 .1 .1 .0 ∙ ap (λ (a : After). a .outbox) g,
+            c .before .before .before .before .before .before .before .before .call-of .ensures .1 .1 .1 .1 ∙ ap (λ (a : After). a .out) g,
           ),
         ),
       ),
     )
 
 returns-2 : tie.Need-returns-2
-unfolding closed
+unfolding called
 returns-2 c = (
   simp (
     ← (c .before .before .before .decode .ensures),
@@ -62,7 +62,7 @@ returns-2 c = (
 )
 
 returns-3 : tie.Need-returns-3
-unfolding closed
+unfolding called
 returns-3 c = (
   simp (
     ← (c .before .before .before .decode .ensures),
@@ -97,8 +97,8 @@ returns-3 c = (
   ),
 )
 
-pub close-bytes-spec : {M : Type 1} → statement M
-close-bytes-spec =
+pub call-bytes-spec : {M : Type 1} → statement M
+call-bytes-spec =
     tie.close
     (tie.spec
     (λ c κs. search needs)
