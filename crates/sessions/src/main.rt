@@ -1,5 +1,5 @@
-// Runs whole sessions on stored answers: reads records on standard input, each the answers that the questions of an opening and a close get, and prints every question, one to a
-// line, and what has become of the session. docs/REPLAY.md has the form of the input.
+// Runs lists of calls on stored answers: reads records on standard input, each the calls on a session and the answers that their questions get, and prints every question, one to a
+// line, and what each call came to. docs/REPLAY.md has the form of the input.
 mod asked;
 mod record;
 mod run;
@@ -21,6 +21,7 @@ fn play(h: Head, body: &[u8]) {
     let mut state = [0u8; 3336];
     let mut inbox = [0xa5u8; 4096];
     let mut outbox = [0xa5u8; 4096];
+    linkage::hca_fresh(&mut state);
     run::run(h, body, &mut state, &mut inbox, &mut outbox);
 }
 

@@ -1,15 +1,33 @@
-// A record: how many calls there are (1 an opening, 2 an opening and a close), how many words the undo records have, how many answers there are, and the length of their
-// bytes, 16 bits each; then those words, 64 bits each, two for every undo record; and the answers.
+// A record: how many calls there are, the length of their bytes, how many answers there are, and the length of theirs, 16 bits each; then the calls, and the answers.
 use session::Top;
 ghost use mathlib.Core.Path.{_≡_};
-ghost use Prim.Native.Nat.{_+_, _*_, _≤_};
+ghost use Prim.Native.Nat.{_+_, _≤_};
 ghost use lib.ListN.{length};
 
 pub(crate) struct Head {
     pub calls: u16,
-    pub words: u16,
+    pub called: u16,
     pub answers: u16,
     pub bytes: u16,
+}
+
+// A stored call: the kind of hca_call and its values; where its input starts, and how many bytes it has; and where the next call starts.
+pub(crate) struct Called {
+    pub kind: u8,
+    pub op: u16,
+    pub op_mod: u8,
+    pub in_mod: u32,
+    pub value: u64,
+    pub from: u16,
+    pub bytes: u16,
+    pub next: u16,
+}
+
+impl Called {
+    pub const OPEN: u8 = 0;
+
+    // A record is pushed on the undo list.
+    pub const PUSH: u8 = 10;
 }
 
 // A stored answer: its kind; how often it and the one before it are given in turn, where that is more than once; its values, or where its bytes start and how many there are;
@@ -52,7 +70,7 @@ pub(crate) fn word(s: &[u8], k: u16) -> u64 {
 pub(crate) fn head_of(s: &[u8]) -> Head {
     Head {
         calls: half(s, 0),
-        words: half(s, 2),
+        called: half(s, 2),
         answers: half(s, 4),
         bytes: half(s, 6),
     }
@@ -60,9 +78,9 @@ pub(crate) fn head_of(s: &[u8]) -> Head {
 
 // The bytes behind the head.
 pub(crate) fn length(h: Head) -> usize
-    ensures { λ r. ⌜ r ≡ h .words * 8 + h .bytes ⌝ }
+    ensures { λ r. ⌜ r ≡ h .called + h .bytes ⌝ }
 {
-    h.words as usize * 8 + h.bytes as usize
+    h.called as usize + h.bytes as usize
 }
 
 // A place further on; a record has no more than 65,535 bytes.
@@ -73,12 +91,24 @@ fn past(at: u16, n: u16) -> u16 {
     u16::MAX
 }
 
-// Where the answers start.
-pub(crate) fn answers_at(h: Head) -> u16 {
-    if h.words < 8192 {
-        return h.words * 8;
+fn byte(s: &[u8], at: u16) -> u8 {
+    (number(s, at as usize, 1) % 256) as u8
+}
+
+// The call at a place.
+pub(crate) fn call_at(body: &[u8], at: u16) -> Called {
+    let from = past(at, 18);
+    let bytes = half(body, past(at, 16));
+    Called {
+        kind: byte(body, at),
+        op: half(body, past(at, 1)),
+        op_mod: byte(body, past(at, 3)),
+        in_mod: (number(body, past(at, 4) as usize, 4) % 4294967296) as u32,
+        value: number(body, past(at, 8) as usize, 8),
+        from,
+        bytes,
+        next: past(from, bytes),
     }
-    u16::MAX
 }
 
 // The bytes of a kind's number, or of the length of its bytes.
@@ -123,7 +153,7 @@ pub(crate) fn no_answer(at: u16) -> Stored {
 
 // The answer at a place.
 pub(crate) fn stored_at(body: &[u8], at: u16) -> Stored {
-    let first = (number(body, at as usize, 1) % 256) as u8;
+    let first = byte(body, at);
     let behind = past(at, 1);
     if first < Stored::REPEATED {
         return values(body, first, 1, behind);
@@ -164,21 +194,26 @@ fn no_records() -> Top {
     }
 }
 
-// The oldest so many undo records of a record: their number and the newest of them.
-pub(crate) fn top_of(h: Head, body: &[u8], count: u64) -> Top {
+// The undo list as it is lent: how many records there are, and the newest of them, which the call at a place has pushed.
+pub(crate) fn top_of(body: &[u8], count: u64, at: u16) -> Top {
     if count == 0 {
         return no_records();
     }
-    if count > h.words as u64 / 2 {
-        return no_records();
-    }
-    let at = (count as usize - 1) * 16;
-    let first = number(body, at, 8);
+    let c = call_at(body, at);
     Top {
         count: count as usize,
-        op: (first / 281474976710656) as u16,
-        op_mod: (first / 4294967296 % 256) as u8,
-        in_mod: (first % 4294967296) as u32,
-        in_param: number(body, at + 8, 8),
+        op: c.op,
+        op_mod: c.op_mod,
+        in_mod: c.in_mod,
+        in_param: c.value,
+    }
+}
+
+// The bytes of a call's input, as an answer has its bytes.
+pub(crate) fn input_of(c: Called) -> Stored {
+    Stored {
+        from: c.from,
+        bytes: c.bytes,
+        ..no_answer(c.next)
     }
 }

@@ -2,6 +2,7 @@
 use crate::asked;
 use crate::asked::Asked;
 use crate::record;
+use crate::record::Called;
 use crate::record::Head;
 use crate::record::Stored;
 use crate::text;
@@ -9,10 +10,15 @@ use crate::told;
 use session::Top;
 ghost use Prim.Native.Nat.{_+_, _≤_, _<_};
 
-// How far a run is: its phase, how many answers were taken, where the next one and the one before it start, how often the pair that it ends was given, the last two questions, and
-// the open question with the undo records that are left.
+// How far a run is: its phase; how many calls were made, where the next one starts, and the kind of the last one; where the calls that pushed the undo records start, oldest first;
+// how many answers were taken, where the next one and the one before it start, how often the pair that it ends was given; the last two questions; and the open question with the
+// number of undo records.
 struct Place {
     phase: u8,
+    made: u16,
+    call: u16,
+    kind: u8,
+    pushes: [u16; 256],
     taken: u16,
     at: u16,
     last: u16,
@@ -23,31 +29,26 @@ struct Place {
 }
 
 impl Place {
-    // The session is to be opened, or closed; the call is running; or the run is over.
-    pub const START: u8 = 0;
+    // A call is to be made; it is running; or the run is over.
+    pub const NEXT: u8 = 0;
 
-    pub const OPENING: u8 = 1;
+    pub const RUNNING: u8 = 1;
 
-    pub const OPEN: u8 = 2;
-
-    pub const CLOSING: u8 = 3;
-
-    pub const OVER: u8 = 4;
+    pub const OVER: u8 = 2;
 }
 
 // The number of `Done` over C linkage; those of all answers are one more than in a record.
 const DONE: u32 = 4;
 
-// The numbers of the two calls.
-const OPEN: u32 = 0;
-
-const CLOSE: u32 = 9;
-
 fn begin(h: Head) -> Place {
     Place {
-        phase: Place::START,
+        phase: Place::NEXT,
+        made: 0,
+        call: 0,
+        kind: 0,
+        pushes: [0u16; 256],
         taken: 0,
-        at: record::answers_at(h),
+        at: h.called,
         last: 0,
         given: 0,
         older: asked::nothing(),
@@ -63,15 +64,46 @@ fn stop(p: Place) -> Place {
     }
 }
 
-// The phase once a call has begun.
-fn running(phase: u8) -> u8 {
-    if phase == Place::START {
-        return Place::OPENING;
+// Where the call starts that pushed the newest of so many undo records.
+fn newest(pushes: [u16; 256], count: u64) -> u16 {
+    if 0 < count {
+        if count <= 256 {
+            return pushes[count as usize - 1];
+        }
     }
-    if phase == Place::OPEN {
-        return Place::CLOSING;
+    0
+}
+
+// The call at a place has pushed a record on so many.
+fn pushed(pushes: [u16; 256], count: u64, at: u16) -> [u16; 256] {
+    if count < 256 {
+        let mut all = pushes;
+        all[count as usize] = at;
+        return all;
     }
-    phase
+    pushes
+}
+
+// A call was made: the next one follows it, and a record that it has pushed lies at its place.
+fn behind_call(p: Place, c: Called) -> Place {
+    let open = p.open;
+    let old = p.pushes;
+    let pushes = pushed(old, open.undo, p.call);
+    Place {
+        phase: Place::RUNNING,
+        made: next(p.made),
+        call: c.next,
+        kind: c.kind,
+        pushes,
+        ..p
+    }
+}
+
+fn running(p: Place, c: Called) -> Place {
+    if p.phase == Place::NEXT {
+        return behind_call(p, c);
+    }
+    p
 }
 
 // What a call has asked; or its refusal, with its number.
@@ -80,15 +112,18 @@ fn turned(p: Place, q: Asked) -> Place {
         told::refused(q.refusal);
         return stop(p);
     }
-    Place {
-        phase: running(p.phase),
-        open: q,
-        ..p
-    }
+    Place { open: q, ..p }
 }
 
 fn next(n: u16) -> u16 {
     if n < u16::MAX {
+        return n + 1;
+    }
+    n
+}
+
+fn one_more(n: u64) -> u64 {
+    if n < u64::MAX {
         return n + 1;
     }
     n
@@ -182,10 +217,14 @@ fn line(given: u64, older: Asked, q: Asked, inbox: &[u8]) {
     asked::line(q);
 }
 
-// A fence is no bus call, and no line is written.
-fn shown(p: Place, inbox: &[u8]) {
+// The call that is made now, or the open question. A fence is no bus call, and no line is written.
+fn shown(p: Place, kind: u8, inbox: &[u8]) {
     let open = p.open;
     let older = p.older;
+    if p.phase == Place::NEXT {
+        told::call(kind);
+        return;
+    }
     if asked::on_bus(open.kind) {
         line(p.given, older, open, inbox);
     }
@@ -238,18 +277,28 @@ fn come(p: Place, h: Head, body: &[u8], outbox: &mut [u8]) {
     fetch(open.kind, reply(p.taken, p.at, h, body), body, outbox);
 }
 
-// A call that has no values.
-fn called(kind: u32, t: Top, state: &mut [u8], inbox: &mut [u8], outbox: &mut [u8]) -> Asked {
+// A stored call. A push is the caller's own.
+fn made(
+    c: Called,
+    input: &[u8],
+    t: Top,
+    state: &mut [u8],
+    inbox: &mut [u8],
+    outbox: &mut [u8],
+) -> Asked {
+    if c.kind == Called::PUSH {
+        return asked::pushed(one_more(t.count as u64));
+    }
     let mut out = [0u8; 40];
     let code = linkage::called(
         state,
-        kind,
-        0,
-        0,
-        0,
-        0,
+        c.kind as u32,
+        c.op,
+        c.op_mod,
+        c.in_mod,
+        c.value,
         false,
-        b"",
+        input,
         inbox,
         outbox,
         t,
@@ -258,15 +307,10 @@ fn called(kind: u32, t: Top, state: &mut [u8], inbox: &mut [u8], outbox: &mut [u
     asked::read(code, &out)
 }
 
-// A fresh session is opened.
-fn opening(t: Top, state: &mut [u8], inbox: &mut [u8], outbox: &mut [u8]) -> Asked {
-    linkage::hca_fresh(state);
-    called(OPEN, t, state, inbox, outbox)
-}
-
-// The session is opened, closed, or handed an answer: what it asks then.
+// The session is called, or handed an answer: what it asks then.
 fn call(
     phase: u8,
+    c: Called,
     kind: u32,
     s: Stored,
     list: &[u8],
@@ -275,18 +319,23 @@ fn call(
     inbox: &mut [u8],
     outbox: &mut [u8],
 ) -> Asked {
-    if phase == Place::START {
-        return opening(t, state, inbox, outbox);
-    }
-    if phase == Place::OPEN {
-        return called(CLOSE, t, state, inbox, outbox);
+    if phase == Place::NEXT {
+        return made(c, list, t, state, inbox, outbox);
     }
     let mut out = [0u8; 40];
     let code = linkage::answered(state, kind, s.a, s.b, list, inbox, outbox, t, &mut out);
     asked::read(code, &out)
 }
 
-// The next call: the open question is shown, and gets its answer.
+// What is handed in: the input of a call, or the next answer.
+fn handed(p: Place, c: Called, h: Head, body: &[u8]) -> Stored {
+    if p.phase == Place::NEXT {
+        return record::input_of(c);
+    }
+    reply(p.taken, p.at, h, body)
+}
+
+// The next call, or the answer to the open question, which is shown.
 fn step(
     p: Place,
     h: Head,
@@ -296,14 +345,26 @@ fn step(
     outbox: &mut [u8],
 ) -> Place {
     let open = p.open;
-    let s = reply(p.taken, p.at, h, body);
-    let t = record::top_of(h, body, open.undo);
+    let c = record::call_at(body, p.call);
+    let s = handed(p, c, h, body);
+    let pushes = p.pushes;
+    let t = record::top_of(body, open.undo, newest(pushes, open.undo));
     let to = record::list_end(s, body);
     let from = record::list_start(s, to);
-    shown(p, inbox);
+    shown(p, c.kind, inbox);
     let kind = number(open.kind, s.kind);
-    let q = call(p.phase, kind, s, &body[from..to], t, state, inbox, outbox);
-    turned(moved(p, s), q)
+    let q = call(
+        p.phase,
+        c,
+        kind,
+        s,
+        &body[from..to],
+        t,
+        state,
+        inbox,
+        outbox,
+    );
+    turned(running(moved(p, s), c), q)
 }
 
 // Whether answers are left at the end of a run.
@@ -313,24 +374,16 @@ fn early(taken: u16, h: Head) {
     }
 }
 
-// What the opening came to. Where the record has two calls, all its undo records are pushed, and the session is closed next.
-fn opened(p: Place, h: Head, state: &[u8], inbox: &[u8], outbox: &[u8]) -> Place {
-    told::opened(state);
-    told::boxes(inbox, outbox);
-    if h.calls == 2 {
+// What a call came to; the next one is made, if there is one.
+fn came(p: Place, h: Head, state: &[u8], inbox: &[u8], outbox: &[u8]) -> Place {
+    let open = p.open;
+    told::ended(p.kind, open.undo, state, inbox, outbox);
+    if p.made < h.calls {
         return Place {
-            phase: Place::OPEN,
-            open: asked::pushed(h.words as u64 / 2),
+            phase: Place::NEXT,
             ..p
         };
     }
-    early(p.taken, h);
-    stop(p)
-}
-
-// What the close came to.
-fn closed(p: Place, h: Head, state: &[u8]) -> Place {
-    told::closed(state);
     early(p.taken, h);
     stop(p)
 }
@@ -347,11 +400,8 @@ fn left_open(p: Place) -> Place {
 fn ended(p: Place, h: Head, state: &[u8], inbox: &[u8], outbox: &[u8]) -> Place {
     let open = p.open;
     if open.kind == Asked::FINISHED {
-        if p.phase == Place::OPENING {
-            return opened(p, h, state, inbox, outbox);
-        }
-        if p.phase == Place::CLOSING {
-            return closed(p, h, state);
+        if p.phase == Place::RUNNING {
+            return came(p, h, state, inbox, outbox);
         }
         return p;
     }
@@ -382,7 +432,7 @@ fn turn(
     )
 }
 
-// The session of a record. A call asks no more than some millions of questions.
+// The calls of a record on a fresh session. A call asks no more than some millions of questions.
 pub(crate) fn run(h: Head, body: &[u8], state: &mut [u8], inbox: &mut [u8], outbox: &mut [u8]) {
     let mut p = begin(h);
     let mut turns: u64 = 100000000;

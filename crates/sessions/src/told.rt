@@ -1,10 +1,13 @@
 // What has become of a session, as lines of text.
 use crate::record;
+use crate::record::Called;
 use crate::text;
 ghost use Prim.Native.Nat.{_*_, _+_, _≤_, _<_};
 
-// What a call may come to: the session is open, or its opening failed.
-const OPEN: u64 = 2;
+// What a call may come to: its opening failed, or the session was closed. Else it is open.
+const FAILED: u64 = 3;
+
+const CLOSED: u64 = 4;
 
 fn wide(x: u8) -> u64
     ensures { λ r. ⌜ r < 256 ⌝ }
@@ -36,7 +39,7 @@ pub(crate) fn inbox(s: &[u8]) {
     text::end_line();
 }
 
-pub(crate) fn boxes(inbox: &[u8], outbox: &[u8]) {
+fn boxes(inbox: &[u8], outbox: &[u8]) {
     text::word(b"boxes");
     text::number(checksum(inbox));
     text::number(checksum(outbox));
@@ -102,31 +105,73 @@ fn books(s: &[u8]) {
     text::end_line();
 }
 
-// The refusal, its two values, and how the closing went; and what an open session has found out and holds.
-fn opening(result: &[u8], found: &[u8], held: &[u8]) {
-    text::word(b"ended");
-    numbers(result, 1, 5);
-    text::number(0);
-    text::end_line();
-    if record::word(result, 0) == OPEN {
-        setup(found);
-        books(held);
+// Lent buffer k of so many.
+fn lent_row(s: &[u8], k: u16, n: u64) {
+    if k < 64 {
+        if (k as u64) < n {
+            row(b"lent", s, 88 + k * 3, 91 + k * 3);
+        }
     }
 }
 
-pub(crate) fn opened(state: &[u8]) {
+fn lent(s: &[u8], n: u64) {
+    let mut k: u16 = 0;
+    while k < 64 {
+        lent_row(s, k, n);
+        k = k + 1;
+    }
+}
+
+// How many records are on the undo list.
+fn undo(n: u64) {
+    text::word(b"undo");
+    text::number(n);
+    text::end_line();
+}
+
+// A call is made.
+pub(crate) fn call(kind: u8) {
+    text::word(b"call");
+    text::number(kind as u64);
+    text::end_line();
+}
+
+fn is_open(result: u64) -> bool {
+    if result == FAILED {
+        return false;
+    }
+    result != CLOSED
+}
+
+// What an open session has found out, behind its opening, and what it holds.
+fn opened(kind: u8, result: u64, found: &[u8], held: &[u8], records: u64) {
+    if is_open(result) {
+        if kind == Called::OPEN {
+            setup(found);
+        }
+        books(held);
+        lent(held, record::word(held, 1));
+        undo(records);
+    }
+}
+
+fn gave(kind: u8, records: u64, state: &[u8]) {
     let mut result = [0u8; 40];
     let mut found = [0u8; 1064];
     let mut held = [0u8; 2240];
     linkage::hca_result(state, &mut result);
     linkage::hca_setup(state, &mut found);
     linkage::hca_books(state, &mut held);
-    opening(&result, &found, &held);
+    row(b"gave", &result, 0, 5);
+    opened(kind, record::word(&result, 0), &found, &held, records);
 }
 
-// How the close went.
-pub(crate) fn closed(state: &[u8]) {
-    let mut result = [0u8; 40];
-    linkage::hca_result(state, &mut result);
-    row(b"closed", &result, 4, 5);
+// What a call has come to.
+pub(crate) fn ended(kind: u8, records: u64, state: &[u8], inbox: &[u8], outbox: &[u8]) {
+    if kind == Called::PUSH {
+        undo(records);
+        return;
+    }
+    gave(kind, records, state);
+    boxes(inbox, outbox);
 }
