@@ -54,6 +54,7 @@ EFI_STATUS memory_unmap(VOID *token);
 EFI_STATUS memory_free(UINTN pages, VOID *host);
 /* The memory at these device addresses; null where the card cannot reach all of it. */
 UINT8 *memory_at(UINT64 address, UINT64 bytes);
+BOOLEAN memory_zero(const UINT8 *bytes, UINT64 count);
 /* The buffers that have not come back. */
 UINTN memory_in_use(VOID);
 /* What no driver may do: it is printed, and counted. */

@@ -63,19 +63,19 @@ static VOID put64(UINT8 *bytes, UINT64 v)
         bytes[i] = v >> (56 - 8 * i);
 }
 
-/* The outbox, zeroed as far as a reply goes; null where it cannot be reached. */
-static UINT8 *outbox(const card_command *c, UINTN bytes)
+/* The outbox, which a session zeroes before a query; null where it cannot be reached. */
+static UINT8 *outbox(const card_command *c)
 {
     UINT8 *out = memory_at(c->out_param, PAGE);
-    if (out)
-        SetMem(out, bytes, 0);
+    if (out && !memory_zero(out, PAGE))
+        misuse(L"a query with an outbox that is not zero");
     return out;
 }
 
 /* Firmware 2.42.5000, revision 3 of the command interface, the catastrophic buffer at 0x7f000 of BAR 0. */
 static UINT8 query_fw(const card_command *c)
 {
-    UINT8 *out = outbox(c, 64);
+    UINT8 *out = outbox(c);
     if (!out)
         return INTERNAL_ERROR;
     put16(out, FW_PAGES);
@@ -91,7 +91,7 @@ static UINT8 query_fw(const card_command *c)
 static UINT8 query_dev_cap(const card_command *c)
 {
     static const UINT16 entries[] = { 32, 256, 32, 64, 128, 128, 128, 64, 8, 64 };
-    UINT8 *out = outbox(c, 168);
+    UINT8 *out = outbox(c);
     if (!out)
         return INTERNAL_ERROR;
     out[0x1f] = 7;
@@ -107,7 +107,7 @@ static UINT8 query_dev_cap(const card_command *c)
 static UINT8 query_port(const card_command *c)
 {
     static const UINT8 mac[] = { 0x00, 0x02, 0xc9, 0x00, 0x00 };
-    UINT8 *out = outbox(c, 64);
+    UINT8 *out = outbox(c);
     if (!out)
         return INTERNAL_ERROR;
     if (c->in_mod < 1 || c->in_mod > PORTS)
@@ -124,7 +124,7 @@ static UINT8 query_port(const card_command *c)
 
 static UINT8 query_adapter(const card_command *c)
 {
-    return outbox(c, 256) ? GOOD : INTERNAL_ERROR;
+    return outbox(c) ? GOOD : INTERNAL_ERROR;
 }
 
 static block block_of(enum area area, const UINT8 *entry)

@@ -18,7 +18,7 @@
 #define SUPPORTED \
     (EFI_PCI_IO_ATTRIBUTE_IO | EFI_PCI_IO_ATTRIBUTE_MEMORY | EFI_PCI_IO_ATTRIBUTE_BUS_MASTER | EFI_PCI_IO_ATTRIBUTE_DUAL_ADDRESS_CYCLE)
 
-/* Two BARs of 64 bits, of 1 MiB and 8 MiB, in the registers 0 and 2; as EDK2 has it, an index counts BARs and not registers. */
+/* Two BARs of 64 bits, of 1 MiB and 8 MiB, in the registers 0 and 2; as EDK II has it, an index counts BARs and not registers. */
 static const struct {
     UINT32 low;
     UINT64 bytes;
@@ -106,14 +106,14 @@ EFI_STATUS config_attributes(EFI_PCI_IO_PROTOCOL_ATTRIBUTE_OPERATION operation, 
     }
 }
 
-/* A QWORD address space descriptor (ACPI), and the end tag. The caller gives the list back with FreePool. */
+/* A QWORD address space descriptor (ACPI) and the end tag, as EDK II makes them: in the place of the highest address is the alignment. */
 EFI_STATUS config_resource(UINT8 bar, VOID **list)
 {
     UINT8 *d;
     EFI_STATUS status;
     if (bar >= CARD_BARS)
         return EFI_UNSUPPORTED;
-    UINT64 base = bars[bar].low & ~0xfu, fields[] = { 64, base, base + bars[bar].bytes - 1, 0, bars[bar].bytes };
+    UINT64 base = bars[bar].low & ~0xfu, fields[] = { 64, base, bars[bar].bytes - 1, 0, bars[bar].bytes };
     static const UINT8 head[] = { 0x8a, 0x2b, 0, 0, 0, 0 }, end[] = { 0x79, 0 };
     status = BS->AllocatePool(EfiBootServicesData, sizeof head + sizeof fields + sizeof end, (VOID **)&d);
     if (status != EFI_SUCCESS)

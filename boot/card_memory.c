@@ -60,7 +60,7 @@ EFI_STATUS memory_allocate(EFI_ALLOCATE_TYPE type, EFI_MEMORY_TYPE kind, UINTN p
     return EFI_SUCCESS;
 }
 
-static BOOLEAN zero(const UINT8 *bytes, UINT64 count)
+BOOLEAN memory_zero(const UINT8 *bytes, UINT64 count)
 {
     for (UINT64 i = 0; i < count; i++)
         if (bytes[i])
@@ -76,7 +76,7 @@ EFI_STATUS memory_map(EFI_PCI_IO_PROTOCOL_OPERATION operation, VOID *host, UINTN
     EFI_STATUS status = other->Map(other, operation, host, bytes, address, &b->token);
     if (status != EFI_SUCCESS)
         return status;
-    if (!zero(b->host, *bytes))
+    if (!memory_zero(b->host, *bytes))
         misuse(L"pages mapped that were not zeroed");
     *address += config_wide() ? WINDOW : 0;
     b->address = *address;

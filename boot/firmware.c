@@ -1,12 +1,30 @@
 #include "firmware.h"
 
 #define MAP_BYTES 32768
+/* The bit of RFLAGS that says that interrupts are on. */
+#define INTERRUPTS 0x200
 /* The serial port's data and line status registers, and the bit that says that a character may be written. */
 #define SERIAL 0x3f8
 #define LINE_STATUS (SERIAL + 5)
 #define READY 0x20
 
 static UINT8 map[MAP_BYTES];
+
+static UINT64 flags(VOID)
+{
+    UINT64 f;
+    __asm__ volatile("pushfq; popq %0" : "=r"(f));
+    return f;
+}
+
+BOOLEAN firmware_masks(VOID)
+{
+    UINT64 outside = flags();
+    EFI_TPL tpl = BS->RaiseTPL(TPL_HIGH_LEVEL);
+    UINT64 inside = flags();
+    BS->RestoreTPL(tpl);
+    return outside & INTERRUPTS && !(inside & INTERRUPTS);
+}
 
 static EFI_STATUS read_map(UINTN *bytes, UINTN *key, UINTN *entry)
 {

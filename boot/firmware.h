@@ -1,9 +1,12 @@
-/* UEFI's memory map, the end of its boot services, and what can be said behind it. */
+/* What is asked of the firmware besides the card: its interrupts, its memory map, the end of its boot services, and what can be said behind it. */
 #ifndef FIRMWARE_H
 #define FIRMWARE_H
 
 #include <efi.h>
 #include <efilib.h>
+
+/* Interrupts are on, and off at TPL_HIGH_LEVEL. */
+BOOLEAN firmware_masks(VOID);
 
 /* The pages that the memory map has as free. */
 UINT64 firmware_free_pages(VOID);

@@ -143,6 +143,7 @@ EFI_STATUS efi_main(EFI_HANDLE image, EFI_SYSTEM_TABLE *table)
 {
     InitializeLib(image, table);
     Print(L"\nTepawhuni on %s, UEFI %d.%d\n", ST->FirmwareVendor, ST->Hdr.Revision >> 16, (ST->Hdr.Revision & 0xffff) / 10);
+    Print(L"interrupts are %s at TPL_HIGH_LEVEL\n", firmware_masks() ? L"off" : L"not off");
     EFI_PCI_IO_PROTOCOL *pci = get(image);
     BOOLEAN good = pci && used(pci) && left(image, pci);
     firmware_say(good ? "PASS: opened, used and closed clean; opened, and quiesced at the end\r\n" : "FAIL\r\n");
