@@ -19,6 +19,9 @@ pub struct Range {
     pub buffer: Buffer,
 }
 
+/// The place of the MTT table among the ranges: it is mapped behind the four cMPT ranges and EQC.
+const MTT: usize = 5;
+
 /// The books: what the session holds, and how the command register stands. Of a session that ended with
 /// `Closing::Kept` they name everything that the card may still use.
 #[derive(Clone, PartialEq, Eq, Debug)]
@@ -54,6 +57,11 @@ impl Books {
     /// The lent buffers, in lending order.
     pub fn lent(&self) -> &[Buffer] {
         &self.lent[..self.lent_count]
+    }
+
+    /// The memory behind the MTT table: the sixth range. None where it is not mapped.
+    pub fn mtt_mem(&self) -> Option<Buffer> {
+        self.ranges().get(MTT).map(|r| r.buffer)
     }
 
     /// Every buffer that is held.
