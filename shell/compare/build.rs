@@ -19,10 +19,6 @@ fn main() {
     }
     println!("cargo:rustc-link-search=native={}", root.join("target/staticlib").display());
     println!("cargo:rustc-link-lib=static={LIBRARY}");
-    println!("cargo:rustc-check-cfg=cfg(hca_old)");
-    if std::env::var_os("DEP_LINKAGE_OLD").is_some() {
-        println!("cargo:rustc-cfg=hca_old");
-    }
 }
 
 fn stop(why: &str) -> ! {

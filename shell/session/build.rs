@@ -1,7 +1,7 @@
 //! Proves the crate `linkage` of the repository and links its static library; or, where HCA_LIBRARY names a folder, links
 //! the library that is there.
 
-use std::path::{Path, PathBuf};
+use std::path::PathBuf;
 use std::process::{self, Command};
 
 const ROOT: &str = "../..";
@@ -15,18 +15,6 @@ fn main() {
     println!("cargo:rerun-if-changed={}", folder.join(format!("lib{LIBRARY}.a")).display());
     println!("cargo:rustc-link-search=native={}", folder.display());
     println!("cargo:rustc-link-lib=static={LIBRARY}");
-    println!("cargo:rustc-check-cfg=cfg(hca_old)");
-    // A library from before `hca_call`.
-    if !has(&folder, b"hca_call") {
-        println!("cargo:rustc-cfg=hca_old");
-        println!("cargo:old=1");
-    }
-}
-
-/// Whether the library has a symbol.
-fn has(folder: &Path, symbol: &[u8]) -> bool {
-    let archive = std::fs::read(folder.join(format!("lib{LIBRARY}.a"))).unwrap_or_default();
-    archive.windows(symbol.len()).any(|w| w == symbol)
 }
 
 /// The folder with the library, once it is proved and built.

@@ -1,5 +1,4 @@
 //! A part of the random and damaged calls of every function of include/hca.h.
-#![cfg(not(hca_old))]
 
 use compare::arbitrary::{self, FUNCTIONS, NUMBERS};
 

@@ -1,5 +1,4 @@
 //! Lists of calls beside the Rust. The long run is `--bin calls`.
-#![cfg(not(hca_old))]
 
 use compare::calls::beside::{differ, ours, rust, same, Ran, Run};
 use compare::calls::cases::{self, command, push, Case};

@@ -1,6 +1,5 @@
 //! What the Rust does not know of the calls on an open session: the refusals 18 to 22 in their order, arguments that a kind does
 //! not look at, lists that change while a call runs. Document 01 alone decides there.
-#![cfg(not(hca_old))]
 
 mod lent;
 

@@ -1,5 +1,4 @@
 //! The stored lists of calls: their form is enough to run them again.
-#![cfg(not(hca_old))]
 
 use std::fmt::Write;
 

@@ -15,13 +15,6 @@ mod c {
         pub fn hca_result(state: *const u8, state_bytes: usize, out: *mut u8, out_bytes: usize) -> u32;
         pub fn hca_setup(state: *const u8, state_bytes: usize, out: *mut u8, out_bytes: usize) -> u32;
         pub fn hca_books(state: *const u8, state_bytes: usize, out: *mut u8, out_bytes: usize) -> u32;
-    }
-
-    #[cfg(hca_old)]
-    pub use crate::old::{hca_answer, hca_call, hca_push_undo};
-
-    #[cfg(not(hca_old))]
-    extern "sysv64" {
         pub fn hca_call(
             state: *mut u8,
             state_bytes: usize,

@@ -29,9 +29,6 @@ mod books;
 mod bus;
 mod call;
 pub mod ffi;
-#[cfg(hca_old)]
-#[allow(clippy::too_many_arguments)]
-mod old;
 mod outcome;
 mod question;
 mod session;

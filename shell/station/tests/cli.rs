@@ -170,7 +170,6 @@ fn seeds_end_in_every_way_and_tell_the_same_twice() {
 }
 
 /// The calls on the open session.
-#[cfg(not(hca_old))]
 mod uses {
     use super::says;
 

@@ -165,7 +165,7 @@ fn check(made: &Made, stop: &Stop, number: u32, figures: &mut Figures) -> Result
     Ok(())
 }
 
-#[cfg(all(test, not(hca_old)))]
+#[cfg(test)]
 mod tests {
     use super::*;
 

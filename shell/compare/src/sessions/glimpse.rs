@@ -44,12 +44,11 @@ impl<B: Bus> Glimpse<B> {
         handle.map(|h| self.bus.pages(*h).read(0, PAGE)).unwrap_or_default()
     }
 
-    /// The command dword is written.
-    fn note_post(&mut self, go: u32) {
-        let inbox = self.mailbox(0);
+    /// The command dword was written; it is polled if that was good.
+    fn note_post(&mut self, inbox: Vec<u8>, go: u32, good: bool) {
         if let Some(notes) = &mut self.notes {
             notes.posted.push(inbox);
-            notes.polled = Some((go >> T_SHIFT) & 1);
+            notes.polled = good.then_some((go >> T_SHIFT) & 1);
         }
     }
 
@@ -105,10 +104,12 @@ impl<B: Bus> Bus for Glimpse<B> {
     }
 
     fn register_write(&mut self, bar: u8, offset: u64, value: u32) -> bool {
-        if self.notes.is_some() && (bar, offset) == (BAR_DCS, GO_WRITE) {
-            self.note_post(u32::from_be(value));
+        let inbox = if (bar, offset) == (BAR_DCS, GO_WRITE) { self.mailbox(0) } else { Vec::new() };
+        let good = self.bus.register_write(bar, offset, value);
+        if (bar, offset) == (BAR_DCS, GO_WRITE) {
+            self.note_post(inbox, u32::from_be(value), good);
         }
-        self.bus.register_write(bar, offset, value)
+        good
     }
 
     fn attributes(&mut self, call: AttributeCall, value: u64) -> Option<u64> {
