@@ -1,9 +1,10 @@
 // The calls of a session: `open`, a client's command, `lend`, `undo_to`, `quiesce` and `close`. Each takes the session and gives it back with the question that is now
 // open, or with a refusal, which leaves everything as it was: 20, 21, 22, 19, 18 in this order.
-use client::Request;
+use calls_plan::Call;
+use client_plan::Request;
 use dma::Pages;
-use fw::Lent;
-use fw::Turn;
+use fw_plan::Lent;
+use fw_plan::Turn;
 use pci::Refusal;
 use session::Failure;
 use session::Planned;
@@ -11,17 +12,7 @@ use session::Session;
 use session::Stage;
 use session::Top;
 ghost use mathlib.Core.Path.{_≡_};
-ghost use Rattle.calls.specs.Calls as c;
-
-// A call. `UndoTo` has the mark, and whether a record that is wanted has a reserved opcode.
-pub enum Call {
-    Open,
-    Command(Request),
-    Lend(u64),
-    UndoTo(usize, bool),
-    Quiesce,
-    Close,
-}
+ghost use Rattle.calls_plan.specs.Calls as c;
 
 fn is_fresh(stage: Stage) -> bool
     ensures { λ r. ⌜ r ≡ c.isFresh stage ⌝ }
@@ -70,7 +61,7 @@ pub fn callable(s: Session, call: Call) -> bool
     ensures { λ r. ⌜ r ≡ c.callable s call ⌝ }
 {
     let stage = s.stage;
-    if fw::is_session(s) {
+    if fw_begin::is_session(s) {
         return is_time(stage, call);
     }
     false
@@ -81,7 +72,7 @@ pub fn is_idle(s: Session) -> bool
     ensures { λ r. ⌜ r ≡ c.isIdle s ⌝ }
 {
     let stage = s.stage;
-    if fw::is_session(s) {
+    if fw_begin::is_session(s) {
         return is_open(stage);
     }
     false
@@ -165,7 +156,7 @@ fn plan(s: Session, call: Call, top: Top) -> Planned
     ensures { λ r. ⌜ r ≡ c.planFor s call top ⌝ }
 {
     match call {
-        Call::Open => opening::open(Session::fresh(), top),
+        Call::Open => preparing::open(Session::fresh(), top),
         Call::Command(r) => client::command(s, r, top.count),
         Call::Lend(bytes) => client::lend(s, bytes, top.count),
         Call::UndoTo(mark, _) => client::undo_to(s, mark, top),
@@ -213,7 +204,7 @@ fn begin(
 {
     ready(call, input, inbox);
     let p = plan(s, call, top);
-    fw::begin(p, inbox, outbox)
+    fw_begin::begin(p, inbox, outbox)
 }
 
 // A call in its time, with all that it must be lent.
@@ -232,7 +223,7 @@ fn admit(
     let why = barred(s, call);
     match why {
         Failure::Nothing => begin(s, call, input, inbox, outbox, top),
-        Failure::By(x) => fw::refused(s, x, top.count),
+        Failure::By(x) => fw_begin::refused(s, x, top.count),
     }
 }
 
@@ -240,7 +231,7 @@ fn admit(
 fn is_lent(call: Call, input: &[u8], inbox: &[u8], outbox: &[u8], top: Top) -> bool
     ensures { λ r. ⌜ r ≡ c.lentFor call (now (input .entry)) (now (inbox .entry)) (now (outbox .entry)) top ⌝ }
 {
-    if fw::is_lent(inbox, outbox, top) {
+    if fw_begin::is_lent(inbox, outbox, top) {
         return has_room(call, input);
     }
     false
@@ -263,7 +254,7 @@ pub fn make(
         if is_lent(call, input, inbox, outbox, top) {
             return admit(s, call, input, inbox, outbox, top);
         }
-        return fw::refused(s, Refusal::Short, top.count);
+        return fw_begin::refused(s, Refusal::Short, top.count);
     }
-    fw::refused(s, Refusal::Wrong, top.count)
+    fw_begin::refused(s, Refusal::Wrong, top.count)
 }

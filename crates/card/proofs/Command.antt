@@ -64,10 +64,6 @@ going-stable p h c d same x = x
 going-stable p h c d (ends q s e) (inl x) = inr (refl, x .1, ap₂ (λ (u : Command) (g : Held). result s u g) (some≡ e (x .0)) (x .2))
 going-stable p h c d (ends q s e) (inr x) = absurd (none≢ (x .0) e)
 
-pub loose-stable : (p : Command) (H : Held → Type 1) (Q : Command → Type 0) → Stable (Loose p H Q)
-loose-stable p H Q c d st (inl x) = inl (within-stable H Q c d st x)
-loose-stable p H Q c d st (inr x) = inr (x .0, x .1, going-stable p (x .0) c d st (x .2))
-
 pub quiet-within : (H : Held → Type 1) (Q : Command → Type 0) (c : Card) → Quiet H c → Within H Q c
 quiet-within H Q c h = record { now = h .1; then = λ p e. absurd (none≢ (h .0) e) }
 

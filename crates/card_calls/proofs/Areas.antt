@@ -37,10 +37,10 @@ use Rattle.session.specs.declared.Stage.the-variants as g
 use Rattle.session.specs.declared.Failure.{Failure}
 use Rattle.session.specs.declared.Closing.{Closing}
 use Rattle.session.specs.declared.Closing.the-variants as c
-use Rattle.closing.specs.Closing.{lendsFrom}
-use Rattle.opening.specs.Values.{opFor, enters, cutterFor, rangeAt, withFa, withAux}
-use Rattle.opening.specs.Opening.{fails, onGood, holds, onMade, mapping, areaFor}
-use Rattle.opening.proofs.Cutting.{behind-less}
+use Rattle.closing_plan.specs.Closing.{lendsFrom}
+use Rattle.opening_plan.specs.Values.{opFor, enters, cutterFor, rangeAt, withFa, withAux}
+use Rattle.opening_plan.specs.Opening.{fails, onGood, holds, onMade, mapping, areaFor}
+use Rattle.opening_plan.proofs.Cutting.{behind-less}
 use Rattle.card.specs.Card.{Held, Card, Hold, Host, Meets, orElse, second, MayUse, World, mailAt}
 use Rattle.card.specs.Owns.{Owns, InBooks, spotOf}
 use Rattle.card.proofs.Command.{quiet-stable, quiet-within}

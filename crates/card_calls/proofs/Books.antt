@@ -24,8 +24,8 @@ use Rattle.session.specs.declared.Books.{Books}
 use Rattle.session.specs.declared.Info.{Info}
 use Rattle.session.specs.declared.Area.{Area}
 use Rattle.session.specs.declared.Area.the-variants as a
-use Rattle.closing.specs.Closing.{inHold, isHeld, boxes, areas, rangesFrom, lendsFrom}
-use Rattle.opening.specs.Values.{opFor, withFa, withAux, enters, rangeAt}
+use Rattle.closing_plan.specs.Closing.{inHold, isHeld, boxes, areas, rangesFrom, lendsFrom}
+use Rattle.opening_plan.specs.Values.{opFor, withFa, withAux, enters, rangeAt}
 use Rattle.card.specs.Card.{Held, Command, Blocks, kind, does, effect, Holds, Meets}
 use Rattle.card.specs.Owns.{InBooks, spotOf}
 use Rattle.card.proofs.Owns.{Perm, stop, keep, swap, join, perm-self, In, in-left, in-right, in-books}

@@ -33,9 +33,9 @@ use Rattle.session.specs.declared.Info.{Info}
 use Rattle.session.specs.declared.Gave.the-variants as v
 use Rattle.session.specs.declared.Failure.{Failure}
 use Rattle.session.specs.declared.Closing.{Closing}
-use Rattle.closing.specs.Closing.{isDone, undoPost, popped, UNDOS}
-use Rattle.client.specs.Client.{postOf, readied, gaveBy, gives, commanding, lentBy, lending, undoing, undoingTo}
-use Rattle.client.specs.declared.Request.{Request}
+use Rattle.closing_plan.specs.Closing.{isDone, undoPost, popped, UNDOS}
+use Rattle.client_plan.specs.Client.{postOf, readied, gaveBy, gives, commanding, lentBy, lending, undoing, undoingTo}
+use Rattle.client_plan.specs.declared.Request.{Request}
 use Rattle.card.specs.Card.{Held, Command, Card, Mail, Other, kind, effect, Settles, goOf, written, begin, store, take, afterReset, Takes, fenced as fencing, Host, World, WorldStep}
 use Rattle.card.specs.Known.{Within}
 use Rattle.card.proofs.Command.{within-stable}

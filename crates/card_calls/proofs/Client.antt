@@ -34,10 +34,10 @@ use Rattle.session.specs.declared.Gave.the-variants as v
 use Rattle.session.specs.declared.Stage.the-variants as g
 use Rattle.session.specs.declared.Failure.{Failure}
 use Rattle.session.specs.declared.Closing.{Closing}
-use Rattle.closing.specs.Closing.{isDone, lendsFrom, undoPost, popped, UNDOS}
-use Rattle.client.specs.Client.{takesInput, givesOutput, inAddress, outAddress, postOf, inputIn, outputIn, readied, gaveBy, gives, commanding, lentBy, lending, undoing, undoingTo}
-use Rattle.client.specs.declared.Request.{Request}
-use Rattle.calls.proofs.Begins.{length-input}
+use Rattle.closing_plan.specs.Closing.{isDone, lendsFrom, undoPost, popped, UNDOS}
+use Rattle.client_plan.specs.Client.{takesInput, givesOutput, inAddress, outAddress, postOf, inputIn, outputIn, readied, gaveBy, gives, commanding, lentBy, lending, undoing, undoingTo}
+use Rattle.client_plan.specs.declared.Request.{Request}
+use Rattle.calls_plan.proofs.Begins.{length-input}
 use Rattle.card.specs.Card.{Held, Command, Card, Settles, Other, kind, IsMap, Meets, Hold, Host, World, MayUse, mailAt}
 use Rattle.card.specs.Safe.{Safe}
 use Rattle.card.proofs.Fixed.{safe-fixed}

@@ -28,7 +28,7 @@ use Rattle.session.specs.declared.Stage.the-variants as g
 use Rattle.session.specs.declared.Failure.{Failure}
 use Rattle.session.specs.declared.Closing.{Closing}
 use Rattle.session.specs.declared.Closing.the-variants as c
-use Rattle.closing.specs.Closing.{isHeld, lendsFrom, emptied, undoPost, popped, UNDOS, restored, parted, freed, giving, resetting, failing, stopped, onward, unmapFa, unmapAux, unmapping, closeHca, undoing, stopping}
+use Rattle.closing_plan.specs.Closing.{isHeld, lendsFrom, emptied, undoPost, popped, UNDOS, restored, parted, freed, giving, resetting, failing, stopped, onward, unmapFa, unmapAux, unmapping, closeHca, undoing, stopping}
 use Rattle.card.specs.Card.{Held, Command, Card, Mail, Other, kind, does, effect, IsMap, Hold, Host, World, mailAt, store}
 use Rattle.card.specs.Owns.{Owns}
 use Rattle.card.proofs.Command.{quiet-stable, quiet-within}

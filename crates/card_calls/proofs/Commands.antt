@@ -23,9 +23,9 @@ use Rattle.session.specs.declared.Failure.{Failure}
 use Rattle.session.specs.declared.Failure.the-variants as f
 use Rattle.session.specs.declared.Closing.{Closing}
 use Rattle.session.specs.declared.Closing.the-variants as c
-use Rattle.closing.specs.Closing.{isDone, inHold, boxes, lendsFrom, emptied, stopping}
-use Rattle.opening.specs.Values.{refusalOf}
-use Rattle.opening.specs.Opening.{fails, onValue}
+use Rattle.closing_plan.specs.Closing.{isDone, inHold, boxes, lendsFrom, emptied, stopping}
+use Rattle.opening_plan.specs.Values.{refusalOf}
+use Rattle.opening_plan.specs.Opening.{fails, onValue}
 use Rattle.pci.specs.Script.{Spot}
 use Rattle.dma.specs.declared.Buffer.{Buffer}
 use Rattle.session.specs.declared.Hold.{Hold as Slot}

@@ -7,7 +7,7 @@ use Rattle.session.specs.Session.{wired}
 use Rattle.session.specs.declared.Wire.{Wire}
 use Rattle.session.specs.declared.Books.{Books}
 use Rattle.session.specs.declared.Info.{Info}
-use Rattle.closing.specs.Closing.{lendsFrom}
+use Rattle.closing_plan.specs.Closing.{lendsFrom}
 use Rattle.card.specs.Card.{Held, Command, Card, Hold, Host, World}
 use Rattle.card.specs.Owns.{Owns}
 use Rattle.card.specs.Known.{Within}

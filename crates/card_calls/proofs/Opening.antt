@@ -65,9 +65,9 @@ use Rattle.session.specs.declared.Failure.{Failure}
 use Rattle.session.specs.declared.Failure.the-variants as f
 use Rattle.session.specs.declared.Closing.{Closing}
 use Rattle.session.specs.declared.Closing.the-variants as c
-use Rattle.closing.specs.Closing.{lendsFrom, emptied, parted, restored}
-use Rattle.opening.specs.Values.{fwFailureOf, layoutIn, rangeAt, noRange, withToggle, withCatas, withOriginal, withInbox, withOutbox, withFa, withAux, nowStarted, withUar, withRevision, withCap, withFunc, withPort}
-use Rattle.opening.specs.Opening.{failsBy, onValue, holds, onMade, opened, queryAdapter, queryFunc, initHca, areaFor, mapIcm, setIcmSize, layingOut, queryPorts, portsOf, queryDevCap, modStat, runFw, fwReply, queryFw, look, giveInbox, makeOutbox, makeInbox, onFound, findUar, firstReset, onClaimed, claim, onEnabled, enable, opening}
+use Rattle.closing_plan.specs.Closing.{lendsFrom, emptied, parted, restored}
+use Rattle.opening_plan.specs.Values.{fwFailureOf, layoutIn, rangeAt, noRange, withToggle, withCatas, withOriginal, withInbox, withOutbox, withFa, withAux, nowStarted, withUar, withRevision, withCap, withFunc, withPort}
+use Rattle.opening_plan.specs.Opening.{failsBy, onValue, holds, onMade, opened, queryAdapter, queryFunc, initHca, areaFor, mapIcm, setIcmSize, layingOut, queryPorts, portsOf, queryDevCap, modStat, runFw, fwReply, queryFw, look, giveInbox, makeOutbox, makeInbox, onFound, findUar, firstReset, onClaimed, claim, onEnabled, enable, opening}
 use Rattle.card.specs.Card.{Held, Card, Hold, Host, orElse, second, MayUse, World, mailAt}
 use Rattle.card.specs.Owns.{Owns, InBooks, spotOf}
 use Rattle.card.proofs.Command.{quiet-stable, within-more}

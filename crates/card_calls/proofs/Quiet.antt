@@ -22,7 +22,7 @@ use Rattle.session.specs.declared.Gave.the-variants as gv
 use Rattle.session.specs.declared.Stage.the-variants as g
 use Rattle.session.specs.declared.Failure.{Failure}
 use Rattle.session.specs.declared.Closing.the-variants as c
-use Rattle.closing.specs.Closing.{isDone, isHeld, lendsFrom, undoPost, popped, UNDOS, failing, quieted, quiescing, stopped, onward, unmapFa, unmapAux, unmapping, closeHca, undoing}
+use Rattle.closing_plan.specs.Closing.{isDone, isHeld, lendsFrom, undoPost, popped, UNDOS, failing, quieted, quiescing, stopped, onward, unmapFa, unmapAux, unmapping, closeHca, undoing}
 use Rattle.card.specs.Card.{Held, Command, Card, kind, does, effect, IsMap, Named, Hold, Host, World, mailAt, store}
 use Rattle.card.specs.Known.{Fits, Out, Stable, Within, postedAs}
 use Rattle.card.proofs.Command.{out-within, within-stable}

@@ -16,7 +16,7 @@ use Rattle.session.specs.declared.Books.{Books}
 use Rattle.session.specs.declared.Info.{Info}
 use Rattle.session.specs.declared.Area.{Area}
 use Rattle.session.specs.declared.Area.the-variants as a
-use Rattle.closing.specs.Closing.{lendsFrom}
+use Rattle.closing_plan.specs.Closing.{lendsFrom}
 use Rattle.card.specs.Card.{Held, Command, Other, kind, Meets, Hold, Host, World, Holds, Carries}
 use Rattle.card.specs.Known.{Quiet, Within}
 use Rattle.card.specs.Owns.{Owns, InBooks, spotOf}

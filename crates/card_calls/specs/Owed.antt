@@ -8,7 +8,7 @@ use Rattle.session.specs.Session.{icmAt}
 use Rattle.session.specs.declared.Icm.{Icm}
 use Rattle.session.specs.declared.Wire.{Wire}
 use Rattle.session.specs.declared.Books.{Books}
-use Rattle.closing.specs.Closing.{isHeld}
+use Rattle.closing_plan.specs.Closing.{isHeld}
 use Rattle.card.specs.Card.{Held, Card}
 use Rattle.card.specs.Known.{Within}
 

@@ -11,7 +11,7 @@ use Rattle.session.specs.Session.{icmAt}
 use Rattle.session.specs.declared.Icm.{Icm}
 use Rattle.session.specs.declared.Books.{Books}
 use Rattle.session.specs.declared.Info.{Info}
-use Rattle.opening.specs.Values.{rangeAt}
+use Rattle.opening_plan.specs.Values.{rangeAt}
 
 -- card page x lies on device page d: page j of the range on page j of its buffer
 abbrev pub OnRange : Icm → ℕ → ℕ → Type 0

@@ -4,7 +4,7 @@ use lib.ListN.{getD}
 use Rattle.pci.specs.Script.{Reply}
 use Rattle.session.specs.Course.{Course, ret, ask, Lent}
 use Rattle.session.specs.declared.Top.{Top}
-use Rattle.client.specs.declared.Request.{Request}
+use Rattle.client_plan.specs.declared.Request.{Request}
 use Rattle.card.specs.Card.{World, WorldStep, Allowed}
 
 -- the numbers of an undo record are those of its type

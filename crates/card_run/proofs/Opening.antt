@@ -53,9 +53,9 @@ use Rattle.session.specs.declared.Gave.the-variants as gv
 use Rattle.session.specs.declared.Stage.the-variants as g
 use Rattle.session.specs.declared.Failure.the-variants as f
 use Rattle.session.specs.declared.Closing.the-variants as c
-use Rattle.closing.specs.Closing.{isDone, parted}
-use Rattle.opening.specs.Values.{fwFailureOf, layoutIn, rangeAt, withToggle, withCatas, withInbox, withOutbox, withOriginal, nowStarted, opFor, enters, cutterFor, withUar, withRevision, withCap}
-use Rattle.opening.specs.Opening.{fails, failsBy, onGood, onValue, holds, onMade, opened, queryAdapter, queryFunc, initHca, mapping, areaFor, mapIcm, setIcmSize, layingOut, queryPorts, portsOf, queryDevCap, modStat, runFw, fwReply, queryFw, look, giveInbox, makeOutbox, makeInbox, onFound, findUar, firstReset, onClaimed, claim, onEnabled, enable, opening}
+use Rattle.closing_plan.specs.Closing.{isDone, parted}
+use Rattle.opening_plan.specs.Values.{fwFailureOf, layoutIn, rangeAt, withToggle, withCatas, withInbox, withOutbox, withOriginal, nowStarted, opFor, enters, cutterFor, withUar, withRevision, withCap}
+use Rattle.opening_plan.specs.Opening.{fails, failsBy, onGood, onValue, holds, onMade, opened, queryAdapter, queryFunc, initHca, mapping, areaFor, mapIcm, setIcmSize, layingOut, queryPorts, portsOf, queryDevCap, modStat, runFw, fwReply, queryFw, look, giveInbox, makeOutbox, makeInbox, onFound, findUar, firstReset, onClaimed, claim, onEnabled, enable, opening}
 use Rattle.card.specs.Card.{Card, holds as holding, No, Host, World}
 use Rattle.card_calls.proofs.Courses.{untouched}
 use Rattle.card_calls.proofs.Areas.{pages-few}

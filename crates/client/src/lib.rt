@@ -2,6 +2,7 @@
 use buffer::Made;
 use buffer::MakeStep;
 use buffer::Making;
+use client_plan::Request;
 use command::CmdEnd;
 use command::CmdResult;
 use hcr::Post;
@@ -22,17 +23,8 @@ ghost use Prim.Native.Nat.{_<_};
 ghost use Rattle.session.specs.Session.{planned};
 ghost use Rattle.session.specs.declared.Client.the-variants.{UndoTo};
 ghost use Rattle.work.specs.declared.End.the-variants.{Cmd};
-ghost use Rattle.client.specs.Client.{takesInput, givesOutput, givesImmediate, inAddress, outAddress, postOf, gaveBy, over, lesser};
-ghost use Rattle.client.specs.Plan.{restPlan, fillFor, commandPlan, lendPlan, undoSend, undoPlan, undoToPlan, commandEnded, lendEnded, undoEnded, clientPlan};
-
-// A command as a client asks for it; the input parameter is looked at in the form without mailboxes.
-pub struct Request {
-    pub form: Form,
-    pub op: u16,
-    pub op_mod: u8,
-    pub in_mod: u32,
-    pub in_param: u64,
-}
+ghost use Rattle.client_plan.specs.Client.{takesInput, givesOutput, givesImmediate, inAddress, outAddress, postOf, gaveBy, over, lesser};
+ghost use Rattle.client_plan.specs.Plan.{restPlan, fillFor, commandPlan, lendPlan, undoSend, undoPlan, undoToPlan, commandEnded, lendEnded, undoEnded, clientPlan};
 
 // How many undo records one call sends at most.
 const UNDOS: u32 = 0xffff_ffff;
@@ -142,7 +134,7 @@ fn rest(s: Session, gave: Gave, undo: usize) -> Planned
     ensures { λ r. ⌜ r ≡ restPlan s gave undo ⌝ }
 {
     Planned {
-        session: closing::rests(s, gave),
+        session: giving::rests(s, gave),
         fill: Fill::Nothing,
         undo,
     }
@@ -272,7 +264,7 @@ fn undone(s: Session, mark: usize, more: u32, x: CmdEnd, top: Top) -> Planned
 {
     let t = s.took(x);
     let result = x.result;
-    if closing::is_done(result) {
+    if giving::is_done(result) {
         return undo(t, mark, more, top);
     }
     rest(t.breaks(), Gave::Failed(Refusal::Undo), top.count)
@@ -283,8 +275,8 @@ pub fn served(s: Session, client: Client, end: End, top: Top) -> Planned
     ensures { λ r. ⌜ r ≡ clientPlan s client end top ⌝ }
 {
     match client {
-        Client::Command(form) => commanded(s, form, closing::cmd_in(end), top.count),
+        Client::Command(form) => commanded(s, form, giving::cmd_in(end), top.count),
         Client::Lend => lent(s, session::made_in(end), top.count),
-        Client::UndoTo(mark, more) => undone(s, mark, more, closing::cmd_in(end), top),
+        Client::UndoTo(mark, more) => undone(s, mark, more, giving::cmd_in(end), top),
     }
 }

@@ -34,15 +34,15 @@ use Rattle.session.specs.declared.Fill.{Fill}
 use Rattle.session.specs.declared.Fill.the-variants as w
 use Rattle.session.specs.declared.Session.{Session}
 use Rattle.session.specs.declared.Planned.{Planned}
-use Rattle.closing.specs.Closing.{isDone, undoPost, popped, UNDOS}
-use Rattle.closing.specs.Plan.{cmdIn}
-use Rattle.client.specs.Client.{givesOutput, postOf}
-use Rattle.client.specs.Plan.{restPlan, commandPlan, lendPlan, lendEnded, undoSend, undoPlan, clientPlan}
-use Rattle.client.specs.declared.Request.{Request}
-use Rattle.fw.specs.Calls.{planOf, planAt, filled, withWork, begunOf, stepTurn, stepOf}
-use Rattle.calls.specs.Calls.{planFor, readyIn, begunTurn}
-use Rattle.calls.specs.declared.Call.{Call}
-use Rattle.calls.specs.declared.Call.the-variants as c
+use Rattle.closing_plan.specs.Closing.{isDone, undoPost, popped, UNDOS}
+use Rattle.closing_plan.specs.Plan.{cmdIn}
+use Rattle.client_plan.specs.Client.{givesOutput, postOf}
+use Rattle.client_plan.specs.Plan.{restPlan, commandPlan, lendPlan, lendEnded, undoSend, undoPlan, clientPlan}
+use Rattle.client_plan.specs.declared.Request.{Request}
+use Rattle.fw_plan.specs.Calls.{planOf, planAt, filled, withWork, begunOf, stepTurn, stepOf}
+use Rattle.calls_plan.specs.Calls.{planFor, readyIn, begunTurn}
+use Rattle.calls_plan.specs.declared.Call.{Call}
+use Rattle.calls_plan.specs.declared.Call.the-variants as c
 
 abbrev pub IsClient : Stage → Type 0
 IsClient g.Fresh = ⊥

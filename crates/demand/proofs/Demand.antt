@@ -43,15 +43,15 @@ use Rattle.session.specs.declared.Failure.the-variants as f
 use Rattle.session.specs.declared.Closing.{Closing}
 use Rattle.session.specs.declared.Closing.the-variants as c
 use Rattle.session.specs.declared.Session.{Session}
-use Rattle.closing.specs.Closing.{lendsFrom, emptied}
-use Rattle.fw.specs.Calls.{asksOf, isSession, isLent, answerable, inTime, refusedOf, answerOf, answerIn, stepTurn, stepOf, stepIn}
-use Rattle.calls.specs.Calls.{isFresh, isOpen, isTime, callable, hasRoom, lentFor, byOpcode, byPages, byList, barred, begunTurn, begunInbox, unless, admitted, admittedIn, callOf, callIn, courseFor}
-use Rattle.calls.specs.declared.Call.{Call as Made}
-use Rattle.calls.specs.declared.Call.the-variants as kn
-use Rattle.calls.proofs.Begins.{begunAt, begins}
-use Rattle.fw.specs.Follows.{courseOf, courseAt, isRunning, hereAfter, Follows}
-use Rattle.fw.specs.declared.Turn.{Turn}
-use Rattle.fw.proofs.Session.{session-follows}
+use Rattle.closing_plan.specs.Closing.{lendsFrom, emptied}
+use Rattle.fw_plan.specs.Calls.{asksOf, isSession, isLent, answerable, inTime, refusedOf, answerOf, answerIn, stepTurn, stepOf, stepIn}
+use Rattle.calls_plan.specs.Calls.{isFresh, isOpen, isTime, callable, hasRoom, lentFor, byOpcode, byPages, byList, barred, begunTurn, begunInbox, unless, admitted, admittedIn, callOf, callIn, courseFor}
+use Rattle.calls_plan.specs.declared.Call.{Call as Made}
+use Rattle.calls_plan.specs.declared.Call.the-variants as kn
+use Rattle.calls_plan.proofs.Begins.{begunAt, begins}
+use Rattle.fw_plan.specs.Follows.{courseOf, courseAt, isRunning, hereAfter, Follows}
+use Rattle.fw_plan.specs.declared.Turn.{Turn}
+use Rattle.fw_plan.proofs.Session.{session-follows}
 use Rattle.card.specs.Card.{Held, Command, Card, Settles, Hold, Host, World, WorldStep, MayUse, Allowed, Meets, Holds, Carries, Other, kind, effect, lendTo}
 use Rattle.card.specs.Owns.{Owns, Pairwise, Apart, InBooks, spotOf, outs, backs}
 use Rattle.card.proofs.Command.{within-stable, within-more, quiet-stable}

@@ -20,13 +20,13 @@ use Rattle.session.specs.declared.Top.{Top}
 use Rattle.session.specs.declared.Fill.{Fill}
 use Rattle.session.specs.declared.Fill.the-variants as w
 use Rattle.session.specs.declared.Session.{Session}
-use Rattle.opening.specs.Values.{layoutIn}
-use Rattle.fw.specs.Calls.{planOf, withWork, filledIn, wipedIn, wipeOf, stepBoxIn, stepIn}
-use Rattle.calls.specs.Calls.{readyIn, planFor, begunInbox}
-use Rattle.calls.specs.declared.Call.{Call}
-use Rattle.calls.proofs.Begins.{length-ready}
-use Rattle.fw.specs.declared.Wipe.{Wipe}
-use Rattle.fw.specs.declared.Wipe.the-variants as v
+use Rattle.opening_plan.specs.Values.{layoutIn}
+use Rattle.fw_plan.specs.Calls.{planOf, withWork, filledIn, wipedIn, wipeOf, stepBoxIn, stepIn}
+use Rattle.calls_plan.specs.Calls.{readyIn, planFor, begunInbox}
+use Rattle.calls_plan.specs.declared.Call.{Call}
+use Rattle.calls_plan.proofs.Begins.{length-ready}
+use Rattle.fw_plan.specs.declared.Wipe.{Wipe}
+use Rattle.fw_plan.specs.declared.Wipe.the-variants as v
 use Rattle.card_calls.proofs.Areas.{filled-is}
 use Rattle.card_calls.proofs.Blocks.{length-mailbox}
 use Rattle.card_calls.proofs.Opening.{length-all}

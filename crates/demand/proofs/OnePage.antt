@@ -10,7 +10,7 @@ use Rattle.dma.specs.Pages.{table}
 use Rattle.session.specs.Session.{icmAt, bufferAt, bufferOf}
 use Rattle.session.specs.declared.Icm.{Icm}
 use Rattle.session.specs.declared.Books.{Books}
-use Rattle.closing.specs.Closing.{areas, rangesFrom, lendsFrom}
+use Rattle.closing_plan.specs.Closing.{areas, rangesFrom, lendsFrom}
 use Rattle.card.specs.Owns.{Each, Pairwise, Apart}
 use Rattle.card_calls.specs.Ranges.{OnRange, InRanges}
 use Rattle.card_calls.proofs.Books.{range-meets}

@@ -90,18 +90,18 @@ use Rattle.session.specs.declared.Fill.{Fill}
 use Rattle.session.specs.declared.Fill.the-variants as w
 use Rattle.session.specs.declared.Session.{Session}
 use Rattle.session.specs.declared.Planned.{Planned}
-use Rattle.closing.specs.Closing.{isDone, isHeld, UNDOS}
-use Rattle.closing.specs.Plan.{cmdIn, resetIn, onHold, givenPlan, outboxPlan, inboxPlan, faPlan, auxPlan, icmPlan, lentPlan, failedPlan, stoppedPlan, unmapFaPlan, unmapAuxPlan, unmapPlan, closeHcaPlan, undoSend, undoPlan, stopPlan, quiescePlan, closesOf, wasReset, closePlanAt, closePlan}
-use Rattle.client.specs.Plan as cl
-use Rattle.client.specs.Plan.{commandPlan, lendPlan, lendEnded, clientPlanAt, clientPlan}
-use Rattle.client.specs.declared.Request.{Request}
-use Rattle.opening.specs.Opening.{portsOf}
-use Rattle.opening.specs.Plan as n
-use Rattle.opening.specs.Plan.{attrIn, claimIn, barIn, failPlan, failByPlan, funcPlan, makePlan, nextRange, mappedPlan, mapPlan, areaPlan, layoutPlan, portPlan, fwReplied, capReplied, portReplied, funcReplied, bootPlanAt, bootPlan, preparePlanAt, preparePlan, listsAt, listsBoot, lists}
-use Rattle.fw.specs.Calls.{planOf, withWork, filled, begunOf, stepTurn, stepOf}
-use Rattle.calls.specs.Calls.{withoutFailure, readyIn, planFor, begunTurn}
-use Rattle.calls.specs.declared.Call.{Call}
-use Rattle.calls.specs.declared.Call.the-variants as kn
+use Rattle.closing_plan.specs.Closing.{isDone, isHeld, UNDOS}
+use Rattle.closing_plan.specs.Plan.{cmdIn, resetIn, onHold, givenPlan, outboxPlan, inboxPlan, faPlan, auxPlan, icmPlan, lentPlan, failedPlan, stoppedPlan, unmapFaPlan, unmapAuxPlan, unmapPlan, closeHcaPlan, undoSend, undoPlan, stopPlan, quiescePlan, closesOf, wasReset, closePlanAt, closePlan}
+use Rattle.client_plan.specs.Plan as cl
+use Rattle.client_plan.specs.Plan.{commandPlan, lendPlan, lendEnded, clientPlanAt, clientPlan}
+use Rattle.client_plan.specs.declared.Request.{Request}
+use Rattle.opening_plan.specs.Opening.{portsOf}
+use Rattle.opening_plan.specs.Plan as n
+use Rattle.opening_plan.specs.Plan.{attrIn, claimIn, barIn, failPlan, failByPlan, funcPlan, makePlan, nextRange, mappedPlan, mapPlan, areaPlan, layoutPlan, portPlan, fwReplied, capReplied, portReplied, funcReplied, bootPlanAt, bootPlan, preparePlanAt, preparePlan, listsAt, listsBoot, lists}
+use Rattle.fw_plan.specs.Calls.{planOf, withWork, filled, begunOf, stepTurn, stepOf}
+use Rattle.calls_plan.specs.Calls.{withoutFailure, readyIn, planFor, begunTurn}
+use Rattle.calls_plan.specs.declared.Call.{Call}
+use Rattle.calls_plan.specs.declared.Call.the-variants as kn
 use Rattle.card_calls.proofs.Closing.{clean-differs, reset-differs}
 
 -- a task that asks nothing of the host
@@ -702,25 +702,12 @@ module _ (C : Type 0) where
   begun-frees E kn.Quiesce s top h d = (quiesce-suited s top, held-in (quiescePlan s top) E d)
   begun-frees E kn.Close s top h d = (stop-suited (withoutFailure s) top, held-in (stopPlan (withoutFailure s) top) E d)
 
-  pub begun-suited : (y : Call) (s : Session) (top : Top) → C → Lawful (planFor s y top)
-  begun-suited y s top h = begun-frees (Unit {0}) y s top (needed-by y h) tt .0
-
   pub begun-needs : (E : Type 0) (y : Call) (s : Session) (input i : List ℕ) (top : Top) → Needed y → E → Both E (begunTurn s y input i top .session)
   unfolding begunTurn
   begun-needs E y s input i top h d = filled-both E (planFor s y top .fill) (planFor s y top .session) (readyIn y input i) (begun-frees E y s top h d)
 
   pub begun-both : (E : Type 0) (y : Call) (s : Session) (input i : List ℕ) (top : Top) → C → E → Both E (begunTurn s y input i top .session)
   begun-both E y s input i top h d = begun-needs E y s input i top (needed-by y h) d
-
--- C becomes D; and where no client's call is under way, any
-pub fit-map : (C D : Type 0) (st : Stage) (z : Closing) (x : Task) → (C → D) → Fit C st z x → Fit D st z x
-fit-map C D g.Fresh z x f h = h
-fit-map C D (g.Open y) z x f h = h
-fit-map C D g.Ended z x f h = h
-fit-map C D (g.Prepare y) z x f h = h
-fit-map C D (g.Boot y) z x f h = h
-fit-map C D (g.Client y) z x f h = f h
-fit-map C D (g.Close y) z x f h = h
 
 abbrev pub NotClient : Stage → Type 0
 NotClient g.Fresh = Unit {0}
@@ -731,6 +718,7 @@ NotClient (g.Boot y) = Unit {0}
 NotClient (g.Client y) = ⊥
 NotClient (g.Close y) = Unit {0}
 
+-- where no client's call is under way, C may be any D
 pub fit-other : (C D : Type 0) (st : Stage) (z : Closing) (x : Task) → NotClient st → Fit C st z x → Fit D st z x
 fit-other C D g.Fresh z x n h = h
 fit-other C D (g.Open y) z x n h = h

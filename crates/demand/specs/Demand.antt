@@ -28,8 +28,8 @@ use Rattle.session.specs.declared.Stage.{Stage}
 use Rattle.session.specs.declared.Stage.the-variants as g
 use Rattle.session.specs.declared.Closing.{Closing}
 use Rattle.session.specs.declared.Closing.the-variants as c
-use Rattle.closing.specs.Closing.{lendsFrom}
-use Rattle.fw.specs.Calls.{asksOf}
+use Rattle.closing_plan.specs.Closing.{lendsFrom}
+use Rattle.fw_plan.specs.Calls.{asksOf}
 use Rattle.card.specs.Card.{Hold, Host, World, MayUse, Allowed}
 use Rattle.card.specs.Owns.{Owns, outs, backs}
 use Rattle.card_calls.specs.Ranges.{InRanges, AsLaid}

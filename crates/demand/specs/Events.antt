@@ -22,11 +22,11 @@ use Rattle.session.specs.declared.Stage.the-variants as g
 use Rattle.session.specs.declared.Failure.{Failure}
 use Rattle.session.specs.declared.Failure.the-variants as f
 use Rattle.session.specs.declared.Session.{Session}
-use Rattle.fw.specs.Calls.{asksOf, answerOf, answerIn}
-use Rattle.calls.specs.Calls.{callOf, callIn}
-use Rattle.calls.specs.declared.Call.{Call as Made}
-use Rattle.calls.specs.declared.Call.the-variants as c
-use Rattle.fw.specs.declared.Turn.{Turn}
+use Rattle.fw_plan.specs.Calls.{asksOf, answerOf, answerIn}
+use Rattle.calls_plan.specs.Calls.{callOf, callIn}
+use Rattle.calls_plan.specs.declared.Call.{Call as Made}
+use Rattle.calls_plan.specs.declared.Call.the-variants as c
+use Rattle.fw_plan.specs.declared.Turn.{Turn}
 use Rattle.card.specs.Card.{Settles, Host, World, WorldStep, Meets, lendTo}
 use Rattle.card.specs.Owns.{spotOf}
 use Rattle.card_calls.specs.SafeCourse.{Lendable, Sized}

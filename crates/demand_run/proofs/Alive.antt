@@ -94,24 +94,24 @@ use Rattle.session.specs.declared.Closing.the-variants as c
 use Rattle.session.specs.declared.Fill.the-variants as w
 use Rattle.session.specs.declared.Session.{Session}
 use Rattle.session.specs.declared.Planned.{Planned}
-use Rattle.closing.specs.Closing.{isDone, isHeld, UNDOS}
-use Rattle.closing.specs.Plan.{cmdIn, resetIn, onHold, givenPlan, outboxPlan, inboxPlan, faPlan, auxPlan, icmPlan, lentPlan, failedPlan, stoppedPlan, unmapFaPlan, unmapAuxPlan, unmapPlan, closeHcaPlan, undoSend, undoPlan, stopPlan, quiescePlan, closesOf, closePlanAt, closePlan}
-use Rattle.client.specs.Client.{givesOutput}
-use Rattle.client.specs.Plan as cl
-use Rattle.client.specs.Plan.{commandPlan, lendPlan, lendEnded, clientPlanAt, clientPlan}
-use Rattle.client.specs.declared.Request.{Request}
-use Rattle.opening.specs.Values.{enters, withCatas, withRevision, withCap, withPort, nowStarted}
-use Rattle.opening.specs.Opening.{portsOf}
-use Rattle.opening.specs.Plan as n
-use Rattle.opening.specs.Plan.{attrIn, claimIn, barIn, failPlan, failByPlan, funcPlan, makePlan, nextRange, mappedPlan, mapPlan, areaPlan, layoutPlan, portPlan, fwReplied, capReplied, portReplied, funcReplied, bootPlanAt, bootPlan, preparePlanAt, preparePlan, lists}
+use Rattle.closing_plan.specs.Closing.{isDone, isHeld, UNDOS}
+use Rattle.closing_plan.specs.Plan.{cmdIn, resetIn, onHold, givenPlan, outboxPlan, inboxPlan, faPlan, auxPlan, icmPlan, lentPlan, failedPlan, stoppedPlan, unmapFaPlan, unmapAuxPlan, unmapPlan, closeHcaPlan, undoSend, undoPlan, stopPlan, quiescePlan, closesOf, closePlanAt, closePlan}
+use Rattle.client_plan.specs.Client.{givesOutput}
+use Rattle.client_plan.specs.Plan as cl
+use Rattle.client_plan.specs.Plan.{commandPlan, lendPlan, lendEnded, clientPlanAt, clientPlan}
+use Rattle.client_plan.specs.declared.Request.{Request}
+use Rattle.opening_plan.specs.Values.{enters, withCatas, withRevision, withCap, withPort, nowStarted}
+use Rattle.opening_plan.specs.Opening.{portsOf}
+use Rattle.opening_plan.specs.Plan as n
+use Rattle.opening_plan.specs.Plan.{attrIn, claimIn, barIn, failPlan, failByPlan, funcPlan, makePlan, nextRange, mappedPlan, mapPlan, areaPlan, layoutPlan, portPlan, fwReplied, capReplied, portReplied, funcReplied, bootPlanAt, bootPlan, preparePlanAt, preparePlan, lists}
 use Rattle.session.specs.declared.Lists.{Lists}
 use Rattle.work.specs.Work.{isResting}
-use Rattle.fw.specs.Follows.{isRunning}
-use Rattle.fw.specs.Calls.{isSession, withWork, filled, stepTurn, stepOf}
-use Rattle.calls.specs.Calls.{withoutFailure, readyIn, planFor, begunTurn}
-use Rattle.calls.specs.declared.Call.{Call}
-use Rattle.calls.specs.declared.Call.the-variants as kn
-use Rattle.calls.proofs.Begins.{length-ready}
+use Rattle.fw_plan.specs.Follows.{isRunning}
+use Rattle.fw_plan.specs.Calls.{isSession, withWork, filled, stepTurn, stepOf}
+use Rattle.calls_plan.specs.Calls.{withoutFailure, readyIn, planFor, begunTurn}
+use Rattle.calls_plan.specs.declared.Call.{Call}
+use Rattle.calls_plan.specs.declared.Call.the-variants as kn
+use Rattle.calls_plan.proofs.Begins.{length-ready}
 use Rattle.card.proofs.Bools.{and-left, and-right, and-true}
 
 -- the lists are within their arrays

@@ -26,14 +26,14 @@ use Rattle.session.specs.declared.Stage.the-variants as g
 use Rattle.session.specs.declared.Failure.{Failure}
 use Rattle.session.specs.declared.Failure.the-variants as f
 use Rattle.session.specs.declared.Session.{Session}
-use Rattle.opening.specs.Opening.{opening}
-use Rattle.fw.specs.Calls.{asksOf, isSession, isLent, answerable, refusedOf, answerOf, answerIn, stepOf, stepIn}
-use Rattle.calls.specs.Calls.{callable, lentFor, begunTurn, begunInbox, begunOutbox, admitted, admittedIn, callOf, callIn}
-use Rattle.calls.specs.declared.Call.the-variants as k
-use Rattle.calls.proofs.Begins.{begunAt, begins}
-use Rattle.fw.specs.Follows.{courseOf, courseAt, isRunning, hereAfter, Follows}
-use Rattle.fw.specs.declared.Turn.{Turn}
-use Rattle.fw.proofs.Session.{session-follows}
+use Rattle.opening_plan.specs.Opening.{opening}
+use Rattle.fw_plan.specs.Calls.{asksOf, isSession, isLent, answerable, refusedOf, answerOf, answerIn, stepOf, stepIn}
+use Rattle.calls_plan.specs.Calls.{callable, lentFor, begunTurn, begunInbox, begunOutbox, admitted, admittedIn, callOf, callIn}
+use Rattle.calls_plan.specs.declared.Call.the-variants as k
+use Rattle.calls_plan.proofs.Begins.{begunAt, begins}
+use Rattle.fw_plan.specs.Follows.{courseOf, courseAt, isRunning, hereAfter, Follows}
+use Rattle.fw_plan.specs.declared.Turn.{Turn}
+use Rattle.fw_plan.proofs.Session.{session-follows}
 use Rattle.card.specs.Card.{same, Host, World, WorldStep, Allowed}
 use Rattle.card_calls.specs.SafeCourse.{SafeCourse}
 use Rattle.card_calls.proofs.Opening.{safe-opening}

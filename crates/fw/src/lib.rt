@@ -1,16 +1,12 @@
 // The session as it takes answers: an answer takes the session and gives it back with the question that is now open, or with a refusal. How a call begins is
 // the crate `calls`.
-use dma::PageList;
-use init::InitHca;
+use fw_plan::Turn;
+use fw_plan::Wipe;
 use pci::Answer;
 use pci::HandleReply;
 use pci::Question;
 use pci::Refusal;
-use session::Closing;
-use session::Failure;
 use session::Fill;
-use session::Gave;
-use session::Info;
 use session::Planned;
 use session::Prepare;
 use session::Session;
@@ -20,54 +16,7 @@ use work::End;
 use work::Ending;
 use work::Work;
 ghost use mathlib.Core.Path.{_≡_};
-ghost use Rattle.fw.specs.Calls as f;
-
-// A call's outcome: the session, why the call was refused if it was, the question that is now open, and how many undo records are left on the list.
-pub struct Turn {
-    pub session: Session,
-    pub refusal: Failure,
-    pub question: Question,
-    pub undo: usize,
-}
-
-// Which mailbox is zeroed at an answer.
-pub enum Wipe {
-    Neither,
-    Inbox,
-    Outbox,
-}
-
-// What has become of a session: not opened yet; a call is running; open, with what the last call gave; the opening failed, with closing's result beside it; closed.
-pub enum Outcome {
-    Fresh,
-    Running,
-    Opened(Gave),
-    Failed(Refusal, Closing),
-    Closed(Closing),
-}
-
-// The limits of what is lent.
-pub struct Lent {
-    pub undo: usize,
-}
-
-impl Lent {
-    pub const MAILBOX: usize = 4096;
-
-    pub const UNDO: usize = 256;
-
-    pub const RANGES: usize = 14;
-
-    pub const BUFFERS: usize = 64;
-}
-
-// The question that is open.
-pub fn asks(s: Session) -> Question
-    ensures { λ r. ⌜ r ≡ f.asksOf s ⌝ }
-{
-    let work = s.work;
-    work.asks()
-}
+ghost use Rattle.fw_plan.specs.Calls as f;
 
 // A mailbox is zeroed when its pages are handed over.
 fn wipe_prepare(p: Prepare) -> Wipe
@@ -135,7 +84,7 @@ fn wipe_of(s: Session, a: Answer) -> Wipe
     ensures { λ r. ⌜ r ≡ f.wipeOf s a ⌝ }
 {
     let stage = s.stage;
-    if is_allocate(asks(s)) {
+    if is_allocate(fw_begin::asks(s)) {
         if is_granted(pci::as_handle(a)) {
             return wipe_by(stage);
         }
@@ -152,68 +101,6 @@ fn wipes(w: Wipe, inbox: &mut [u8], outbox: &mut [u8])
         Wipe::Neither => {}
         Wipe::Inbox => fields::zero(inbox),
         Wipe::Outbox => fields::zero(outbox),
-    }
-}
-
-// What INIT_HCA tells this card.
-fn init_fields(n: Info) -> InitHca
-    ensures { λ r. ⌜ r ≡ f.initIn n ⌝ }
-{
-    let cap = n.cap;
-    let laid = layout::profile(cap);
-    let layout = laid.layout;
-    let rows = layout.rows;
-    init::init_hca(cap, rows)
-}
-
-// The inbox is filled for a page list, whose command then begins.
-fn fill_list(s: Session, c: dma::Cutter, inbox: &mut [u8]) -> Session
-    ensures { λ r. ⌜ r ≡ f.filledList c s (now (inbox .entry)) ⌝ }
-    ensures { λ r. ⌜ now (inbox .exit) ≡ f.listIn c (now (inbox .entry)) ⌝ }
-{
-    match dma::fill(inbox, 63, c, PageList::CAPACITY) {
-        PageList::Filled(y) => opening::lists(s, y),
-        PageList::Short => s,
-    }
-}
-
-fn fill_init(s: Session, inbox: &mut [u8]) -> Session
-    ensures { λ r. ⌜ r ≡ s ⌝ }
-    ensures { λ r. ⌜ now (inbox .exit) ≡ f.initBox s (now (inbox .entry)) ⌝ }
-{
-    let info = s.info;
-    init::fill(inbox, init_fields(info));
-    s
-}
-
-fn fill_stat(s: Session, inbox: &mut [u8]) -> Session
-    ensures { λ r. ⌜ r ≡ s ⌝ }
-    ensures { λ r. ⌜ now (inbox .exit) ≡ f.statBox (now (inbox .entry)) ⌝ }
-{
-    init::mod_stat_cfg(inbox);
-    s
-}
-
-fn fill_out(s: Session, outbox: &mut [u8]) -> Session
-    ensures { λ r. ⌜ r ≡ s ⌝ }
-    ensures { λ r. ⌜ now (outbox .exit) ≡ f.outBox (now (outbox .entry)) ⌝ }
-{
-    fields::zero(outbox);
-    s
-}
-
-// The mailboxes are written as the plan says.
-fn fill(fill: Fill, s: Session, inbox: &mut [u8], outbox: &mut [u8]) -> Session
-    ensures { λ r. ⌜ r ≡ f.filled fill s (now (inbox .entry)) ⌝ }
-    ensures { λ r. ⌜ now (inbox .exit) ≡ f.filledIn fill s (now (inbox .entry)) ⌝ }
-    ensures { λ r. ⌜ now (outbox .exit) ≡ f.filledOut fill (now (outbox .entry)) ⌝ }
-{
-    match fill {
-        Fill::Nothing => s,
-        Fill::Outbox => fill_out(s, outbox),
-        Fill::List(c) => fill_list(s, c, inbox),
-        Fill::ModStat => fill_stat(s, inbox),
-        Fill::InitHca => fill_init(s, inbox),
     }
 }
 
@@ -236,46 +123,11 @@ fn follow(s: Session, end: End, outbox: &[u8], top: Top) -> Planned
         Stage::Fresh => stays(s, top.count),
         Stage::Open(_) => stays(s, top.count),
         Stage::Ended => stays(s, top.count),
-        Stage::Prepare(p) => opening::prepared(s, p, end, top),
+        Stage::Prepare(p) => preparing::prepared(s, p, end, top),
         Stage::Boot(b) => opening::booted(s, b, end, outbox, top),
         Stage::Client(k) => client::served(s, k, end, top),
         Stage::Close(c) => closing::closed(s, c, end, top),
     }
-}
-
-// A turn that was not refused.
-fn takes_turn(session: Session, undo: usize) -> Turn
-    ensures { λ r. ⌜ r ≡ f.turnOf session undo ⌝ }
-{
-    Turn {
-        session,
-        refusal: Failure::Nothing,
-        question: asks(session),
-        undo,
-    }
-}
-
-// A turn that was refused leaves everything as it is.
-pub fn refused(session: Session, why: Refusal, undo: usize) -> Turn
-    ensures { λ r. ⌜ r ≡ f.refusedOf session why undo ⌝ }
-{
-    Turn {
-        session,
-        refusal: Failure::By(why),
-        question: asks(session),
-        undo,
-    }
-}
-
-// A plan is begun: the mailboxes are written, and the next question is open.
-pub fn begin(p: Planned, inbox: &mut [u8], outbox: &mut [u8]) -> Turn
-    ensures { λ r. ⌜ r ≡ f.begunOf p (now (inbox .entry)) ⌝ }
-    ensures { λ r. ⌜ now (inbox .exit) ≡ f.begunIn p (now (inbox .entry)) ⌝ }
-    ensures { λ r. ⌜ now (outbox .exit) ≡ f.begunOut p (now (outbox .entry)) ⌝ }
-{
-    let how = p.fill;
-    let s = p.session;
-    takes_turn(fill(how, s, inbox, outbox), p.undo)
 }
 
 // The session with the task that the step left.
@@ -299,7 +151,7 @@ fn go_on(
     ensures { λ r. ⌜ now (outbox .exit) ≡ f.wipedOut (f.wipeOf s a) (now (outbox .entry)) ⌝ }
 {
     wipes(wipe_of(s, a), inbox, outbox);
-    takes_turn(with_work(s, work), undo)
+    fw_begin::takes_turn(with_work(s, work), undo)
 }
 
 // The task has ended: the plan says what follows, from the outbox as it is lent now.
@@ -309,7 +161,7 @@ fn end(s: Session, end: End, inbox: &mut [u8], outbox: &mut [u8], top: Top) -> T
     ensures { λ r. ⌜ now (outbox .exit) ≡ f.endedOut s end (now (outbox .entry)) top ⌝ }
 {
     let p = follow(s, end, outbox, top);
-    begin(p, inbox, outbox)
+    fw_begin::begin(p, inbox, outbox)
 }
 
 // The answer to the open question.
@@ -335,47 +187,6 @@ fn step(
     }
 }
 
-// The struct is a session: its lists are within their arrays.
-pub fn is_session(s: Session) -> bool
-    ensures { λ r. ⌜ r ≡ f.isSession s ⌝ }
-{
-    let books = s.books;
-    let lists = books.lists;
-    if Lent::RANGES < lists.ranges {
-        return false;
-    }
-    if Lent::BUFFERS < lists.lends {
-        return false;
-    }
-    true
-}
-
-// What is lent is long enough: both mailboxes, and the undo list not too long.
-pub fn is_lent(inbox: &[u8], outbox: &[u8], top: Top) -> bool
-    ensures { λ r. ⌜ r ≡ f.isLent (now (inbox .entry)) (now (outbox .entry)) top ⌝ }
-{
-    if inbox.len() != Lent::MAILBOX {
-        return false;
-    }
-    if outbox.len() != Lent::MAILBOX {
-        return false;
-    }
-    if Lent::UNDO < top.count {
-        return false;
-    }
-    true
-}
-
-// The answer is one to the open question; else it is refused with 20.
-pub fn answerable(s: Session, a: Answer) -> bool
-    ensures { λ r. ⌜ r ≡ f.answerable s a ⌝ }
-{
-    if is_session(s) {
-        return pci::suits(asks(s), a);
-    }
-    false
-}
-
 // Hands in the answer to the open question, with a resource list's bytes beside it. 20 for an answer of the wrong kind, or where no question is open; then 21 for a
 // mailbox that has not 4,096 bytes, or more than 256 undo records.
 pub fn answer(
@@ -390,38 +201,11 @@ pub fn answer(
     ensures { λ r. ⌜ now (inbox .exit) ≡ f.answerIn s a (now (resource .entry)) (now (inbox .entry)) (now (outbox .entry)) top ⌝ }
     ensures { λ r. ⌜ now (outbox .exit) ≡ f.answerOut s a (now (resource .entry)) (now (inbox .entry)) (now (outbox .entry)) top ⌝ }
 {
-    if answerable(s, a) {
-        if is_lent(inbox, outbox, top) {
+    if fw_begin::answerable(s, a) {
+        if fw_begin::is_lent(inbox, outbox, top) {
             return step(s, a, resource, inbox, outbox, top);
         }
-        return refused(s, Refusal::Short, top.count);
+        return fw_begin::refused(s, Refusal::Short, top.count);
     }
-    refused(s, Refusal::Wrong, top.count)
-}
-
-fn ended(failure: Failure, closing: Closing) -> Outcome
-    ensures { λ r. ⌜ r ≡ f.endedAs failure closing ⌝ }
-{
-    match failure {
-        Failure::Nothing => Outcome::Closed(closing),
-        Failure::By(why) => Outcome::Failed(why, closing),
-    }
-}
-
-// What has become of a session.
-pub fn result(s: Session) -> Outcome
-    ensures { λ r. ⌜ r ≡ f.outcomeOf s ⌝ }
-{
-    let stage = s.stage;
-    let failure = s.failure;
-    let closing = s.closing;
-    match stage {
-        Stage::Fresh => Outcome::Fresh,
-        Stage::Open(gave) => Outcome::Opened(gave),
-        Stage::Ended => ended(failure, closing),
-        Stage::Prepare(_) => Outcome::Running,
-        Stage::Boot(_) => Outcome::Running,
-        Stage::Client(_) => Outcome::Running,
-        Stage::Close(_) => Outcome::Running,
-    }
+    fw_begin::refused(s, Refusal::Wrong, top.count)
 }

@@ -1,12 +1,12 @@
 // What can be read of a session without changing it: its open question, what has become of it, what the opening has found out, and its books.
+use abi::SHORT;
+use abi::WRONG;
 use session::Session;
-use turns::SHORT;
-use turns::WRONG;
 use words_session::Kept;
 ghost use mathlib.Core.Path.{_≡_};
 ghost use Prim.Native.Nat.{_≤_};
 ghost use lib.ListN.{length};
-ghost use Rattle.readers.specs.Readers as c;
+ghost use Rattle.abi.specs.Readers as c;
 
 // The bytes of a question, of what has become of a session, and of its books.
 const QUESTION: usize = 32;
@@ -23,7 +23,7 @@ fn give_question(s: Session, out: &mut [u8]) -> u32
     if out.len() < QUESTION {
         return SHORT;
     }
-    let w = words_calls::question_words(fw::asks(s));
+    let w = words_calls::question_words(fw_begin::asks(s));
     words::store(out, 0, &w);
     0
 }
@@ -35,7 +35,7 @@ fn give_result(s: Session, out: &mut [u8]) -> u32
     if out.len() < RESULT {
         return SHORT;
     }
-    let w = results::outcome_words(fw::result(s));
+    let w = results::outcome_words(fw_begin::result(s));
     words::store(out, 0, &w);
     0
 }

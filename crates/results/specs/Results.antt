@@ -19,9 +19,9 @@ use Rattle.session.specs.declared.Gave.the-variants as g
 use Rattle.session.specs.declared.Closing.{Closing}
 use Rattle.session.specs.declared.Closing.the-variants as c
 use Rattle.session.specs.declared.Info.{Info}
-use Rattle.opening.specs.Values.{layoutIn}
-use Rattle.fw.specs.declared.Outcome as fw
-use Rattle.fw.specs.declared.Outcome.the-variants as u
+use Rattle.opening_plan.specs.Values.{layoutIn}
+use Rattle.fw_plan.specs.declared.Outcome as fw
+use Rattle.fw_plan.specs.declared.Outcome.the-variants as u
 
 -- WHAT HAS BECOME of a session: 0 not opened yet, 1 a call is running, 3 the opening failed, 4 closed; open, and the last call gave 2 nothing, 5 a command's immediate
 -- and the microseconds waited, 6 a buffer, 7 a failure. Behind 3 and 7 document 01's number and the values beside it; last, how the closing went

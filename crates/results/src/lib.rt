@@ -1,5 +1,5 @@
 // What has become of a session, and what an opening has found out, as words.
-use fw::Outcome;
+use fw_plan::Outcome;
 use layout::Table;
 use pci::Refusal;
 use reply::DevCap;

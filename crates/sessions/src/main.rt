@@ -21,7 +21,7 @@ fn play(h: Head, body: &[u8]) {
     let mut state = [0u8; 3336];
     let mut inbox = [0xa5u8; 4096];
     let mut outbox = [0xa5u8; 4096];
-    linkage::hca_fresh(&mut state);
+    turns::fresh_bytes(&mut state);
     run::run(h, body, &mut state, &mut inbox, &mut outbox);
 }
 

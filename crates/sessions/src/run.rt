@@ -290,7 +290,7 @@ fn made(
         return asked::pushed(one_more(t.count as u64));
     }
     let mut out = [0u8; 40];
-    let code = linkage::called(
+    let code = turn_call::called(
         state,
         c.kind as u32,
         c.op,
@@ -323,7 +323,7 @@ fn call(
         return made(c, list, t, state, inbox, outbox);
     }
     let mut out = [0u8; 40];
-    let code = linkage::answered(state, kind, s.a, s.b, list, inbox, outbox, t, &mut out);
+    let code = turn_answer::answered(state, kind, s.a, s.b, list, inbox, outbox, t, &mut out);
     asked::read(code, &out)
 }
 

@@ -159,9 +159,9 @@ fn gave(kind: u8, records: u64, state: &[u8]) {
     let mut result = [0u8; 40];
     let mut found = [0u8; 1064];
     let mut held = [0u8; 2240];
-    linkage::hca_result(state, &mut result);
-    linkage::hca_setup(state, &mut found);
-    linkage::hca_books(state, &mut held);
+    readers::result_bytes(state, &mut result);
+    readers::setup_bytes(state, &mut found);
+    readers::books_bytes(state, &mut held);
     row(b"gave", &result, 0, 5);
     opened(kind, record::word(&result, 0), &found, &held, records);
 }

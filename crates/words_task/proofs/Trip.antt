@@ -41,10 +41,6 @@ unfolding Words
 fault-small fv.Memory f = (lit< tt, tt)
 fault-small fv.Address f = (lit< tt, tt)
 
-pub fault-length : (v : Fault) → length (faultWords v) ≡ 1
-fault-length fv.Memory = refl
-fault-length fv.Address = refl
-
 pub catas-back : (v : Catas) → CatasFits v → catasOf (at (catasWords v) 0) (at (catasWords v) 1) (at (catasWords v) 2) ≡ v
 catas-back (cv.Known x y) f = simp (mod-eq-of-lt (f .0))
 catas-back cv.Unknown f = refl
@@ -53,10 +49,6 @@ pub catas-small : (v : Catas) → CatasFits v → Words (catasWords v)
 unfolding Words
 catas-small (cv.Known x y) f = (lit< tt, (omega (arith, (f .0)), (f .1, tt)))
 catas-small cv.Unknown f = (lit< tt, (lit< tt, (lit< tt, tt)))
-
-pub catas-length : (v : Catas) → length (catasWords v) ≡ 3
-catas-length (cv.Known x y) = refl
-catas-length cv.Unknown = refl
 
 pub phase-back : (v : Phase) → PhaseFits v → phaseOf (at (phaseWords v) 0) (at (phaseWords v) 1) ≡ v
 phase-back pv.First f = refl

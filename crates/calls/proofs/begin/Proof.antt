@@ -1,5 +1,5 @@
 use borrow.Author.Needs.{needs}
-use Rattle.calls.specs.Calls.{begunTurn, begunInbox, begunOutbox}
+use Rattle.calls_plan.specs.Calls.{begunTurn, begunInbox, begunOutbox}
 use Rattle.calls.proofs.begin.Statement.{statement}
 use Rattle.calls.proofs.begin.Tie as tie
 

@@ -1,5 +1,5 @@
 use borrow.Author.Needs.{needs}
-use Rattle.client.specs.Plan.{commandPlan}
+use Rattle.client_plan.specs.Plan.{commandPlan}
 use Rattle.client.proofs.command.Statement.{statement}
 use Rattle.client.proofs.command.Tie as tie
 

@@ -4,8 +4,8 @@ use mathlib.Core.Path.{_≡_, refl, ap, sym, subst, _∙_}
 use mathlib.Core.List.{List, _++_}
 use native.Mathlib.Omega.{arith}
 use lib.ListN.{length, take, drop, set, getD, length-set}
-use Rattle.client.specs.Client.{lesser}
-use Rattle.client.proofs.Copies.{copy-none, copy-more, lesser-le, copy-all}
+use Rattle.client_plan.specs.Client.{lesser}
+use Rattle.client_plan.proofs.Copies.{copy-none, copy-more, lesser-le, copy-all}
 use Rattle.client.proofs.copy.Statement.{statement}
 use Rattle.client.proofs.copy.Tie as tie
 

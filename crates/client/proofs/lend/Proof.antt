@@ -1,5 +1,5 @@
 use borrow.Author.Needs.{needs}
-use Rattle.client.proofs.Steps.{lend-by}
+use Rattle.client_plan.proofs.Steps.{lend-by}
 use Rattle.client.proofs.lend.Statement.{statement}
 use Rattle.client.proofs.lend.Tie as tie
 

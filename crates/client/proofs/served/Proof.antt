@@ -1,5 +1,5 @@
 use borrow.Author.Needs.{needs}
-use Rattle.client.specs.Plan.{clientPlan}
+use Rattle.client_plan.specs.Plan.{clientPlan}
 use Rattle.client.proofs.served.Statement.{statement}
 use Rattle.client.proofs.served.Tie as tie
 

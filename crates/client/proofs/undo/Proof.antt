@@ -1,6 +1,6 @@
 use borrow.Author.Needs.{needs}
 use borrow.Author.Tests.{le-leb, lt-leb}
-use Rattle.client.specs.Plan.{undoPlan}
+use Rattle.client_plan.specs.Plan.{undoPlan}
 use Rattle.client.proofs.undo.Statement.{statement}
 use Rattle.client.proofs.undo.Tie as tie
 

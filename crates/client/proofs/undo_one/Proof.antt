@@ -1,5 +1,5 @@
 use borrow.Author.Needs.{needs}
-use Rattle.client.proofs.Steps.{undo-none, undo-more}
+use Rattle.client_plan.proofs.Steps.{undo-none, undo-more}
 use Rattle.client.proofs.undo_one.Statement.{statement}
 use Rattle.client.proofs.undo_one.Tie as tie
 

@@ -1,5 +1,5 @@
 use borrow.Author.Needs.{needs}
-use Rattle.closing.specs.Plan.{closeHcaPlan}
+use Rattle.closing_plan.specs.Plan.{closeHcaPlan}
 use Rattle.closing.proofs.close_hca.Statement.{statement}
 use Rattle.closing.proofs.close_hca.Tie as tie
 

@@ -1,5 +1,5 @@
 use borrow.Author.Needs.{needs}
-use Rattle.closing.specs.Plan.{failedPlan}
+use Rattle.closing_plan.specs.Plan.{failedPlan}
 use Rattle.closing.proofs.failed.Statement.{statement}
 use Rattle.closing.proofs.failed.Tie as tie
 

@@ -1,5 +1,5 @@
 use borrow.Author.Needs.{needs}
-use Rattle.closing.specs.Plan.{quiescePlan}
+use Rattle.closing_plan.specs.Plan.{quiescePlan}
 use Rattle.closing.proofs.quiesce.Statement.{statement}
 use Rattle.closing.proofs.quiesce.Tie as tie
 

@@ -1,5 +1,5 @@
 use borrow.Author.Needs.{needs}
-use Rattle.closing.specs.Plan.{stopPlan}
+use Rattle.closing_plan.specs.Plan.{stopPlan}
 use Rattle.closing.proofs.stop.Statement.{statement}
 use Rattle.closing.proofs.stop.Tie as tie
 

@@ -1,5 +1,5 @@
 use borrow.Author.Needs.{needs}
-use Rattle.closing.specs.Plan.{stoppedPlan}
+use Rattle.closing_plan.specs.Plan.{stoppedPlan}
 use Rattle.closing.proofs.stopped.Statement.{statement}
 use Rattle.closing.proofs.stopped.Tie as tie
 

@@ -1,6 +1,6 @@
 use borrow.Author.Needs.{needs}
 use borrow.Author.Tests.{eq-eqb, ne-eqb}
-use Rattle.closing.specs.Plan.{undoPlan}
+use Rattle.closing_plan.specs.Plan.{undoPlan}
 use Rattle.closing.proofs.undo.Statement.{statement}
 use Rattle.closing.proofs.undo.Tie as tie
 

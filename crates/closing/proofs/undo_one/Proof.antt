@@ -1,5 +1,5 @@
 use borrow.Author.Needs.{needs}
-use Rattle.closing.proofs.Steps.{undo-none, undo-more}
+use Rattle.closing_plan.proofs.Steps.{undo-none, undo-more}
 use Rattle.closing.proofs.undo_one.Statement.{statement}
 use Rattle.closing.proofs.undo_one.Tie as tie
 

@@ -1,5 +1,5 @@
 use borrow.Author.Needs.{needs}
-use Rattle.closing.proofs.Steps.{unmap-none, unmap-more}
+use Rattle.closing_plan.proofs.Steps.{unmap-none, unmap-more}
 use Rattle.closing.proofs.unmap.Statement.{statement}
 use Rattle.closing.proofs.unmap.Tie as tie
 

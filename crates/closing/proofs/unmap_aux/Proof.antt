@@ -1,5 +1,5 @@
 use borrow.Author.Needs.{needs}
-use Rattle.closing.specs.Plan.{unmapAuxPlan}
+use Rattle.closing_plan.specs.Plan.{unmapAuxPlan}
 use Rattle.closing.proofs.unmap_aux.Statement.{statement}
 use Rattle.closing.proofs.unmap_aux.Tie as tie
 

@@ -1,5 +1,5 @@
 use borrow.Author.Needs.{needs}
-use Rattle.closing.specs.Plan.{unmapFaPlan}
+use Rattle.closing_plan.specs.Plan.{unmapFaPlan}
 use Rattle.closing.proofs.unmap_fa.Statement.{statement}
 use Rattle.closing.proofs.unmap_fa.Tie as tie
 

@@ -1,5 +1,5 @@
 use borrow.Author.Needs.{needs}
-use Rattle.closing.specs.Plan.{closePlan}
+use Rattle.closing_plan.specs.Plan.{closePlan}
 use Rattle.closing.proofs.unmapped.Statement.{statement}
 use Rattle.closing.proofs.unmapped.Tie as tie
 

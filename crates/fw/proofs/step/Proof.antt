@@ -1,7 +1,7 @@
 use borrow.Author.Needs.{needs}
-use Rattle.fw.specs.Calls.{stepOf}
-use Rattle.fw.specs.Calls.{stepIn}
-use Rattle.fw.specs.Calls.{stepOut}
+use Rattle.fw_plan.specs.Calls.{stepOf}
+use Rattle.fw_plan.specs.Calls.{stepIn}
+use Rattle.fw_plan.specs.Calls.{stepOut}
 use Rattle.fw.proofs.step.Statement.{statement}
 use Rattle.fw.proofs.step.Tie as tie
 

@@ -1,5 +1,5 @@
 use mathlib.Core.Path.{ap, sym, refl, _∙_}
-use Rattle.fw.specs.Calls.{isAllocate, isGranted}
+use Rattle.fw_plan.specs.Calls.{isAllocate, isGranted}
 use borrow.Author.Needs.{needs}
 use Rattle.fw.proofs.wipe_of.Statement.{statement}
 use Rattle.fw.proofs.wipe_of.Tie as tie

@@ -45,17 +45,17 @@ use Rattle.session.proofs.Top.Laws as T′
 use Rattle.undo.specs.List.{topOf, anyReserved}
 use Rattle.undo.specs.declared.Undo.{Undo}
 use Rattle.undo.proofs.Undo as U
-use Rattle.turns.specs.Turns.{After}
-use Rattle.linkage.specs.Calls.{told}
+use Rattle.abi.specs.Turns.{After}
+use Rattle.abi.specs.Calls.{told}
 use Rattle.linkage.proofs.Said.{says-five}
 use Rattle.undo.proofs.top as topping
 use Rattle.undo.proofs.top.Symbol as topping-def
 use Rattle.undo.proofs.top.Symbol.{name as #undo·top}
 use Rattle.undo.proofs.top.Met as topping-thm
-use Rattle.linkage.proofs.answered as callee
-use Rattle.linkage.proofs.answered.Symbol as callee-def
-use Rattle.linkage.proofs.answered.Symbol.{name as #linkage·answered}
-use Rattle.linkage.proofs.answered.Met as callee-thm
+use Rattle.turn_answer.proofs.answered as callee
+use Rattle.turn_answer.proofs.answered.Symbol as callee-def
+use Rattle.turn_answer.proofs.answered.Symbol.{name as #turn-answer·answered}
+use Rattle.turn_answer.proofs.answered.Met as callee-thm
 use Rattle.linkage.proofs.hca_answer.Key.{name as #linkage·hca-answer}
 use Rattle.linkage.proofs.hca_answer as self
 use Rattle.linkage.proofs.hca_answer.Statement as stated
@@ -163,7 +163,7 @@ module _ {M : Type 1} (𝓤 : URA M) (H : Heap 𝓤) (A : Atoms 𝓤) (W : Given
       split ! $ move ! (1 ∷ []) $ split ! $ move ! (1 ∷ []) $ split ! $ move ! (1 ∷ []) $ split ! $ move ! (1 ∷ []) $ split ! $ move ! (1 ∷ []) $ drop ! $ move ! (5 ∷ []) $ split ! $ move ! (6 ∷ 5 ∷ 4 ∷ 3 ∷ 0 ∷ 2 ∷ 1 ∷ []) $ group ! 7 $ frame ! $
       nothing ! $ move ! (4 ∷ 0 ∷ []) $ fjoin ! $ owned ! usize (Is usize) (uint-makes 𝓤 H A W w64) count _ (refl, count-fits) $ fjoin ! $ move ! (5 ∷ 0 ∷ []) $ fjoin ! $ move ! (3 ∷ 0 ∷ []) $ fjoin ! $ move ! (2 ∷ 0 ∷ []) $ fjoin ! $ move ! (2 ∷ 0 ∷ []) $ fjoin ! $ owned ! u64 (Is u64) (uint-makes 𝓤 H A W w64) b _ (refl, b-fits) $ fjoin ! $ owned ! u64 (Is u64) (uint-makes 𝓤 H A W w64) a _ (refl, a-fits) $ fjoin ! $ owned ! u32 (Is u32) (uint-makes 𝓤 H A W w32) kind _ (refl, kind-fits) $ fjoin ! $ move ! (1 ∷ 0 ∷ []) $ fjoin ! $ frame ! $ done !
 
-  module _ (C : Calls 𝓤 H) (Λ : Loops 𝓤 H) (fm : FmC 𝓤 H (W .laws) C) (known-top : Triple 𝓤 (C #undo·top) (Tops 𝓤 H A mem run)) (known-callee : Triple 𝓤 (C #linkage·answered) (Callee 𝓤 H A mem run)) where
+  module _ (C : Calls 𝓤 H) (Λ : Loops 𝓤 H) (fm : FmC 𝓤 H (W .laws) C) (known-top : Triple 𝓤 (C #undo·top) (Tops 𝓤 H A mem run)) (known-callee : Triple 𝓤 (C #turn-answer·answered) (Callee 𝓤 H A mem run)) where
     walk : Room u8 (length (now state)) → Room u8 (length (now resource)) → Room u8 (length (now inbox)) → Room u8 (length (now outbox)) → Room U.the-row (length (now list)) → Room u8 (length (now out)) → ent 𝓤 (onEntry 𝓤 H A self.signature κs qs args vals) (WpFn 𝓤 H C Λ code.function (state-v ∷ vint w32 kind ∷ vint w64 a ∷ vint w64 b ∷ resource-v ∷ inbox-v ∷ outbox-v ∷ list-v ∷ vint w64 count ∷ out-v ∷ []) Post)
     walk state-room resource-room inbox-room outbox-room list-room out-room =
         qed W ((‵ (flft κ₀ q₀) ⊛ ‵ (flft κ₁ q₁) ⊛ ‵ (flft κ₂ q₂) ⊛ ‵ (flft κ₃ q₃) ⊛ ‵ (flft κ₄ q₄) ⊛ ‵ (flft κ₅ q₅) ⊛ ‵ ftrue) ∷ ‵ (owns (MutSlice (named 0) κ₀ u8 ∷ u32 ∷ u64 ∷ u64 ∷ ShrSlice (named 1) κ₁ u8 ∷ MutSlice (named 2) κ₂ u8 ∷ MutSlice (named 3) κ₃ u8 ∷ ShrSlice (named 4) κ₄ U.the-row ∷ usize ∷ MutSlice (named 5) κ₅ u8 ∷ []) args vals) ∷ []) ∵ enter ! C Λ code.function (state-v ∷ vint w32 kind ∷ vint w64 a ∷ vint w64 b ∷ resource-v ∷ inbox-v ∷ outbox-v ∷ list-v ∷ vint w64 count ∷ out-v ∷ []) _ $
@@ -218,7 +218,7 @@ module _ {M : Type 1} (𝓤 : URA M) (H : Heap 𝓤) (A : Atoms 𝓤) (W : Given
         keep ! (1 ∷ 7 ∷ 5 ∷ 4 ∷ 3 ∷ 2 ∷ 6 ∷ 8 ∷ 0 ∷ []) $ by ! (exits r code-v (zs .0) (zs .1 .1 .1 .1 .1 .0) (zs .1 .1 .1 .1 .1 .1 .0) (zs .1 .1 .1 .1 .1 .1 .1 .1 .0) (e₀ ∙ ap (λ (z : After). z .code) (same newest e-top), (e₁ ∙ ap (λ (z : After). z .state) (same newest e-top), (e₂ ∙ ap (λ (z : After). z .inbox) (same newest e-top), (e₃ ∙ ap (λ (z : After). z .outbox) (same newest e-top), (e₄ ∙ ap (λ (z : After). z .out) (same newest e-top)))))) (n-state, (n-inbox, (n-outbox, (n-out, tt))))))))))))))))))))))))))))))))))))))))))
 
 module _ {M : Type 1} (𝓤 : URA M) (H : Heap 𝓤) (A : Atoms 𝓤) (W : Given 𝓤 H A) (mem : Memory → SProp 𝓤) (run : Routine → Fun 𝓤) where
-  walks : (C : Calls 𝓤 H) (Λ : Loops 𝓤 H) → FmC 𝓤 H (W .laws) C → Triple 𝓤 (C #undo·top) (Tops 𝓤 H A mem run) → Triple 𝓤 (C #linkage·answered) (Callee 𝓤 H A mem run)
+  walks : (C : Calls 𝓤 H) (Λ : Loops 𝓤 H) → FmC 𝓤 H (W .laws) C → Triple 𝓤 (C #undo·top) (Tops 𝓤 H A mem run) → Triple 𝓤 (C #turn-answer·answered) (Callee 𝓤 H A mem run)
       → Walks 𝓤 H A self.ended stayed (WpFn 𝓤 H C Λ code.function) (self.clauses 𝓤 H A mem run)
   walks C Λ fm known-top known-callee = walked 𝓤 H A self.ended stayed (self.clauses 𝓤 H A mem run) (WpFn 𝓤 H C Λ code.function)
       (λ κs. (slice-vals, (uint-vals w32, (uint-vals w64, (uint-vals w64, (slice-vals, (slice-vals, (slice-vals, (slice-vals, (uint-vals w64, (slice-vals, tt)))))))))))
@@ -227,7 +227,7 @@ module _ {M : Type 1} (𝓤 : URA M) (H : Heap 𝓤) (A : Atoms 𝓤) (W : Given
       (walk 𝓤 H A W mem run (κs .0) (κs .1 .0) (κs .1 .1 .0) (κs .1 .1 .1 .0) (κs .1 .1 .1 .1 .0) (κs .1 .1 .1 .1 .1 .0) (qs .0) (qs .1 .0) (qs .1 .1 .0) (qs .1 .1 .1 .0) (qs .1 .1 .1 .1 .0) (qs .1 .1 .1 .1 .1 .0) (a .0) (a .1 .0) (a .1 .1 .0) (a .1 .1 .1 .0) (a .1 .1 .1 .1 .0) (a .1 .1 .1 .1 .1 .0) (a .1 .1 .1 .1 .1 .1 .0) (a .1 .1 .1 .1 .1 .1 .1 .0) (a .1 .1 .1 .1 .1 .1 .1 .1 .0) (a .1 .1 .1 .1 .1 .1 .1 .1 .1 .0) (are .1 .0 .1) (are .1 .1 .0 .1) (are .1 .1 .1 .0 .1) (are .1 .1 .1 .1 .1 .1 .1 .1 .0 .1) C Λ fm known-top known-callee (are .0 .0 .1) (are .1 .1 .1 .1 .0 .0 .1) (are .1 .1 .1 .1 .1 .0 .0 .1) (are .1 .1 .1 .1 .1 .1 .0 .0 .1) (are .1 .1 .1 .1 .1 .1 .1 .0 .0 .1) (are .1 .1 .1 .1 .1 .1 .1 .1 .1 .0 .0 .1)))
 
 meets : {M : Type 1} (𝓤 : URA M) (H : Heap 𝓤) (A : Atoms 𝓤) → Given 𝓤 H A → (mem : Memory → SProp 𝓤) (run : Routine → Fun 𝓤) (𝓣 : Tables 𝓤 H)
-    → Triple 𝓤 (𝓣 .C #undo·top) (Tops 𝓤 H A mem run) → Triple 𝓤 (𝓣 .C #linkage·answered) (Callee 𝓤 H A mem run)
+    → Triple 𝓤 (𝓣 .C #undo·top) (Tops 𝓤 H A mem run) → Triple 𝓤 (𝓣 .C #turn-answer·answered) (Callee 𝓤 H A mem run)
     → Meets 𝓤 H A self.signature (WpFn 𝓤 H (𝓣 .C) (𝓣 .Λ) code.function) (self.spec 𝓤 H A mem run)
 meets 𝓤 H A W mem run 𝓣 known-top known-callee =
     walk-meets 𝓤 H A self.ended stayed W (goes-gave-slice 𝓤 H A W 6 0 tt (plain (λ _. u8)), (goes-none 𝓤 H A W 6 (λ _. u32) yes (λ κs x f. refl), (goes-none 𝓤 H A W 6 (λ _. u64) yes (λ κs x f. refl), (goes-none 𝓤 H A W 6 (λ _. u64) yes (λ κs x f. refl), (goes-none-slice 𝓤 H A W 6 (1 ∷ []) tt (plain (λ _. u8)) yes, (goes-gave-slice 𝓤 H A W 6 2 tt (plain (λ _. u8)), (goes-gave-slice 𝓤 H A W 6 3 tt (plain (λ _. u8)), (goes-none-slice 𝓤 H A W 6 (4 ∷ []) tt (plain (λ _. U.the-row)) yes, (goes-none 𝓤 H A W 6 (λ _. usize) yes (λ κs x f. refl), (goes-gave-slice 𝓤 H A W 6 5 tt (plain (λ _. u8)), tt)))))))))) (self.clauses 𝓤 H A mem run)
@@ -240,4 +240,4 @@ hca-answer-spec 𝓤 H 𝓜 𝓖 𝓡 =
     (tables 𝓤 H 𝓜 𝓡 code.env .C) (tables 𝓤 H 𝓜 𝓡 code.env .Λ) #linkage·hca-answer code.function (code.unfolded 𝓤 H 𝓜 𝓡)
     (meets 𝓤 H (𝓖 .A) (givenOf 𝓤 H 𝓜 𝓖) (𝓜 .mem) (𝓡 .run) (tablesOf 𝓤 H 𝓜 (tables 𝓤 H 𝓜 𝓡 code.env))
     (cited 𝓤 H (Tops 𝓤 H (𝓖 .A) (𝓜 .mem) (𝓡 .run)) 𝓜 𝓡 code.env #undo·top topping-def.routine code.calls-undo·top (topping-thm.met 𝓤 H 𝓜 𝓖 𝓡))
-    (cited 𝓤 H (Callee 𝓤 H (𝓖 .A) (𝓜 .mem) (𝓡 .run)) 𝓜 𝓡 code.env #linkage·answered callee-def.routine code.calls-linkage·answered (callee-thm.met 𝓤 H 𝓜 𝓖 𝓡)))
+    (cited 𝓤 H (Callee 𝓤 H (𝓖 .A) (𝓜 .mem) (𝓡 .run)) 𝓜 𝓡 code.env #turn-answer·answered callee-def.routine code.calls-turn-answer·answered (callee-thm.met 𝓤 H 𝓜 𝓖 𝓡)))

@@ -45,25 +45,25 @@ use Rattle.session.proofs.Top.Laws as T′
 use Rattle.undo.specs.List.{topOf, anyReserved}
 use Rattle.undo.specs.declared.Undo.{Undo}
 use Rattle.undo.proofs.Undo as U
-use Rattle.turns.specs.Turns.{After}
-use Rattle.linkage.specs.Calls.{made}
+use Rattle.abi.specs.Turns.{After}
+use Rattle.abi.specs.Calls.{made}
 use Rattle.linkage.proofs.Said.{says-five}
 use Rattle.undo.proofs.top as topping
 use Rattle.undo.proofs.top.Symbol as topping-def
 use Rattle.undo.proofs.top.Symbol.{name as #undo·top}
 use Rattle.undo.proofs.top.Met as topping-thm
-use Rattle.linkage.proofs.mark_of as marking
-use Rattle.linkage.proofs.mark_of.Symbol as marking-def
-use Rattle.linkage.proofs.mark_of.Symbol.{name as #linkage·mark-of}
-use Rattle.linkage.proofs.mark_of.Met as marking-thm
+use Rattle.turn_call.proofs.mark_of as marking
+use Rattle.turn_call.proofs.mark_of.Symbol as marking-def
+use Rattle.turn_call.proofs.mark_of.Symbol.{name as #turn-call·mark-of}
+use Rattle.turn_call.proofs.mark_of.Met as marking-thm
 use Rattle.undo.proofs.reserved_above as reserving
 use Rattle.undo.proofs.reserved_above.Symbol as reserving-def
 use Rattle.undo.proofs.reserved_above.Symbol.{name as #undo·reserved-above}
 use Rattle.undo.proofs.reserved_above.Met as reserving-thm
-use Rattle.linkage.proofs.called as callee
-use Rattle.linkage.proofs.called.Symbol as callee-def
-use Rattle.linkage.proofs.called.Symbol.{name as #linkage·called}
-use Rattle.linkage.proofs.called.Met as callee-thm
+use Rattle.turn_call.proofs.called as callee
+use Rattle.turn_call.proofs.called.Symbol as callee-def
+use Rattle.turn_call.proofs.called.Symbol.{name as #turn-call·called}
+use Rattle.turn_call.proofs.called.Met as callee-thm
 use Rattle.linkage.proofs.hca_call.Key.{name as #linkage·hca-call}
 use Rattle.linkage.proofs.hca_call as self
 use Rattle.linkage.proofs.hca_call.Statement as stated
@@ -205,7 +205,7 @@ module _ {M : Type 1} (𝓤 : URA M) (H : Heap 𝓤) (A : Atoms 𝓤) (W : Given
       split ! $ move ! (1 ∷ []) $ split ! $ move ! (1 ∷ []) $ split ! $ move ! (1 ∷ []) $ split ! $ move ! (1 ∷ []) $ split ! $ move ! (1 ∷ []) $ drop ! $ move ! (5 ∷ []) $ split ! $ move ! (6 ∷ 5 ∷ 4 ∷ 3 ∷ 0 ∷ 2 ∷ 1 ∷ []) $ group ! 7 $ frame ! $
       nothing ! $ move ! (4 ∷ 0 ∷ []) $ fjoin ! $ owned ! usize (Is usize) (uint-makes 𝓤 H A W w64) count _ (refl, count-fits) $ fjoin ! $ move ! (5 ∷ 0 ∷ []) $ fjoin ! $ move ! (3 ∷ 0 ∷ []) $ fjoin ! $ move ! (2 ∷ 0 ∷ []) $ fjoin ! $ move ! (2 ∷ 0 ∷ []) $ fjoin ! $ owned ! u64 (Is u64) (uint-makes 𝓤 H A W w64) value _ (refl, value-fits) $ fjoin ! $ owned ! u32 (Is u32) (uint-makes 𝓤 H A W w32) in-mod _ (refl, in-mod-fits) $ fjoin ! $ owned ! u8 (Is u8) (uint-makes 𝓤 H A W w8) op-mod _ (refl, op-mod-fits) $ fjoin ! $ owned ! u16 (Is u16) (uint-makes 𝓤 H A W w16) op _ (refl, op-fits) $ fjoin ! $ owned ! u32 (Is u32) (uint-makes 𝓤 H A W w32) kind _ (refl, kind-fits) $ fjoin ! $ move ! (1 ∷ 0 ∷ []) $ fjoin ! $ frame ! $ done !
 
-  module _ (C : Calls 𝓤 H) (Λ : Loops 𝓤 H) (fm : FmC 𝓤 H (W .laws) C) (known-top : Triple 𝓤 (C #undo·top) (Tops 𝓤 H A mem run)) (known-mark : Triple 𝓤 (C #linkage·mark-of) (Marks 𝓤 H A mem run)) (known-reserved : Triple 𝓤 (C #undo·reserved-above) (Reserved 𝓤 H A mem run)) (known-callee : Triple 𝓤 (C #linkage·called) (Callee 𝓤 H A mem run)) where
+  module _ (C : Calls 𝓤 H) (Λ : Loops 𝓤 H) (fm : FmC 𝓤 H (W .laws) C) (known-top : Triple 𝓤 (C #undo·top) (Tops 𝓤 H A mem run)) (known-mark : Triple 𝓤 (C #turn-call·mark-of) (Marks 𝓤 H A mem run)) (known-reserved : Triple 𝓤 (C #undo·reserved-above) (Reserved 𝓤 H A mem run)) (known-callee : Triple 𝓤 (C #turn-call·called) (Callee 𝓤 H A mem run)) where
     walk : Room u8 (length (now state)) → Room u8 (length (now input)) → Room u8 (length (now inbox)) → Room u8 (length (now outbox)) → Room U.the-row (length (now list)) → Room u8 (length (now out)) → ent 𝓤 (onEntry 𝓤 H A self.signature κs qs args vals) (WpFn 𝓤 H C Λ code.function (state-v ∷ vint w32 kind ∷ vint w16 op ∷ vint w8 op-mod ∷ vint w32 in-mod ∷ vint w64 value ∷ input-v ∷ inbox-v ∷ outbox-v ∷ list-v ∷ vint w64 count ∷ out-v ∷ []) Post)
     walk state-room input-room inbox-room outbox-room list-room out-room =
         qed W ((‵ (flft κ₀ q₀) ⊛ ‵ (flft κ₁ q₁) ⊛ ‵ (flft κ₂ q₂) ⊛ ‵ (flft κ₃ q₃) ⊛ ‵ (flft κ₄ q₄) ⊛ ‵ (flft κ₅ q₅) ⊛ ‵ ftrue) ∷ ‵ (owns (MutSlice (named 0) κ₀ u8 ∷ u32 ∷ u16 ∷ u8 ∷ u32 ∷ u64 ∷ ShrSlice (named 1) κ₁ u8 ∷ MutSlice (named 2) κ₂ u8 ∷ MutSlice (named 3) κ₃ u8 ∷ ShrSlice (named 4) κ₄ U.the-row ∷ usize ∷ MutSlice (named 5) κ₅ u8 ∷ []) args vals) ∷ []) ∵ enter ! C Λ code.function (state-v ∷ vint w32 kind ∷ vint w16 op ∷ vint w8 op-mod ∷ vint w32 in-mod ∷ vint w64 value ∷ input-v ∷ inbox-v ∷ outbox-v ∷ list-v ∷ vint w64 count ∷ out-v ∷ []) _ $
@@ -275,7 +275,7 @@ module _ {M : Type 1} (𝓤 : URA M) (H : Heap 𝓤) (A : Atoms 𝓤) (W : Given
         keep ! (1 ∷ 7 ∷ 5 ∷ 4 ∷ 3 ∷ 2 ∷ 6 ∷ 8 ∷ 0 ∷ []) $ by ! (exits r code-v (zs .0) (zs .1 .1 .1 .1 .1 .1 .1 .1 .0) (zs .1 .1 .1 .1 .1 .1 .1 .1 .1 .0) (zs .1 .1 .1 .1 .1 .1 .1 .1 .1 .1 .1 .0) (e₀ ∙ ap (λ (z : After). z .code) (same newest found e-top (e-found ∙ ap (λ (m : ℕ). anyReserved (skip m (take count undos))) e-mark)), (e₁ ∙ ap (λ (z : After). z .state) (same newest found e-top (e-found ∙ ap (λ (m : ℕ). anyReserved (skip m (take count undos))) e-mark)), (e₂ ∙ ap (λ (z : After). z .inbox) (same newest found e-top (e-found ∙ ap (λ (m : ℕ). anyReserved (skip m (take count undos))) e-mark)), (e₃ ∙ ap (λ (z : After). z .outbox) (same newest found e-top (e-found ∙ ap (λ (m : ℕ). anyReserved (skip m (take count undos))) e-mark)), (e₄ ∙ ap (λ (z : After). z .out) (same newest found e-top (e-found ∙ ap (λ (m : ℕ). anyReserved (skip m (take count undos))) e-mark))))))) (n-state, (n-inbox, (n-outbox, (n-out, tt))))))))))))))))))))))))))))))))))))))))))))))))))))))
 
 module _ {M : Type 1} (𝓤 : URA M) (H : Heap 𝓤) (A : Atoms 𝓤) (W : Given 𝓤 H A) (mem : Memory → SProp 𝓤) (run : Routine → Fun 𝓤) where
-  walks : (C : Calls 𝓤 H) (Λ : Loops 𝓤 H) → FmC 𝓤 H (W .laws) C → Triple 𝓤 (C #undo·top) (Tops 𝓤 H A mem run) → Triple 𝓤 (C #linkage·mark-of) (Marks 𝓤 H A mem run) → Triple 𝓤 (C #undo·reserved-above) (Reserved 𝓤 H A mem run) → Triple 𝓤 (C #linkage·called) (Callee 𝓤 H A mem run)
+  walks : (C : Calls 𝓤 H) (Λ : Loops 𝓤 H) → FmC 𝓤 H (W .laws) C → Triple 𝓤 (C #undo·top) (Tops 𝓤 H A mem run) → Triple 𝓤 (C #turn-call·mark-of) (Marks 𝓤 H A mem run) → Triple 𝓤 (C #undo·reserved-above) (Reserved 𝓤 H A mem run) → Triple 𝓤 (C #turn-call·called) (Callee 𝓤 H A mem run)
       → Walks 𝓤 H A self.ended stayed (WpFn 𝓤 H C Λ code.function) (self.clauses 𝓤 H A mem run)
   walks C Λ fm known-top known-mark known-reserved known-callee = walked 𝓤 H A self.ended stayed (self.clauses 𝓤 H A mem run) (WpFn 𝓤 H C Λ code.function)
       (λ κs. (slice-vals, (uint-vals w32, (uint-vals w16, (uint-vals w8, (uint-vals w32, (uint-vals w64, (slice-vals, (slice-vals, (slice-vals, (slice-vals, (uint-vals w64, (slice-vals, tt)))))))))))))
@@ -284,7 +284,7 @@ module _ {M : Type 1} (𝓤 : URA M) (H : Heap 𝓤) (A : Atoms 𝓤) (W : Given
       (walk 𝓤 H A W mem run (κs .0) (κs .1 .0) (κs .1 .1 .0) (κs .1 .1 .1 .0) (κs .1 .1 .1 .1 .0) (κs .1 .1 .1 .1 .1 .0) (qs .0) (qs .1 .0) (qs .1 .1 .0) (qs .1 .1 .1 .0) (qs .1 .1 .1 .1 .0) (qs .1 .1 .1 .1 .1 .0) (a .0) (a .1 .0) (a .1 .1 .0) (a .1 .1 .1 .0) (a .1 .1 .1 .1 .0) (a .1 .1 .1 .1 .1 .0) (a .1 .1 .1 .1 .1 .1 .0) (a .1 .1 .1 .1 .1 .1 .1 .0) (a .1 .1 .1 .1 .1 .1 .1 .1 .0) (a .1 .1 .1 .1 .1 .1 .1 .1 .1 .0) (a .1 .1 .1 .1 .1 .1 .1 .1 .1 .1 .0) (a .1 .1 .1 .1 .1 .1 .1 .1 .1 .1 .1 .0) (are .1 .0 .1) (are .1 .1 .0 .1) (are .1 .1 .1 .0 .1) (are .1 .1 .1 .1 .0 .1) (are .1 .1 .1 .1 .1 .0 .1) (are .1 .1 .1 .1 .1 .1 .1 .1 .1 .1 .0 .1) C Λ fm known-top known-mark known-reserved known-callee (are .0 .0 .1) (are .1 .1 .1 .1 .1 .1 .0 .0 .1) (are .1 .1 .1 .1 .1 .1 .1 .0 .0 .1) (are .1 .1 .1 .1 .1 .1 .1 .1 .0 .0 .1) (are .1 .1 .1 .1 .1 .1 .1 .1 .1 .0 .0 .1) (are .1 .1 .1 .1 .1 .1 .1 .1 .1 .1 .1 .0 .0 .1)))
 
 meets : {M : Type 1} (𝓤 : URA M) (H : Heap 𝓤) (A : Atoms 𝓤) → Given 𝓤 H A → (mem : Memory → SProp 𝓤) (run : Routine → Fun 𝓤) (𝓣 : Tables 𝓤 H)
-    → Triple 𝓤 (𝓣 .C #undo·top) (Tops 𝓤 H A mem run) → Triple 𝓤 (𝓣 .C #linkage·mark-of) (Marks 𝓤 H A mem run) → Triple 𝓤 (𝓣 .C #undo·reserved-above) (Reserved 𝓤 H A mem run) → Triple 𝓤 (𝓣 .C #linkage·called) (Callee 𝓤 H A mem run)
+    → Triple 𝓤 (𝓣 .C #undo·top) (Tops 𝓤 H A mem run) → Triple 𝓤 (𝓣 .C #turn-call·mark-of) (Marks 𝓤 H A mem run) → Triple 𝓤 (𝓣 .C #undo·reserved-above) (Reserved 𝓤 H A mem run) → Triple 𝓤 (𝓣 .C #turn-call·called) (Callee 𝓤 H A mem run)
     → Meets 𝓤 H A self.signature (WpFn 𝓤 H (𝓣 .C) (𝓣 .Λ) code.function) (self.spec 𝓤 H A mem run)
 meets 𝓤 H A W mem run 𝓣 known-top known-mark known-reserved known-callee =
     walk-meets 𝓤 H A self.ended stayed W (goes-gave-slice 𝓤 H A W 6 0 tt (plain (λ _. u8)), (goes-none 𝓤 H A W 6 (λ _. u32) yes (λ κs x f. refl), (goes-none 𝓤 H A W 6 (λ _. u16) yes (λ κs x f. refl), (goes-none 𝓤 H A W 6 (λ _. u8) yes (λ κs x f. refl), (goes-none 𝓤 H A W 6 (λ _. u32) yes (λ κs x f. refl), (goes-none 𝓤 H A W 6 (λ _. u64) yes (λ κs x f. refl), (goes-none-slice 𝓤 H A W 6 (1 ∷ []) tt (plain (λ _. u8)) yes, (goes-gave-slice 𝓤 H A W 6 2 tt (plain (λ _. u8)), (goes-gave-slice 𝓤 H A W 6 3 tt (plain (λ _. u8)), (goes-none-slice 𝓤 H A W 6 (4 ∷ []) tt (plain (λ _. U.the-row)) yes, (goes-none 𝓤 H A W 6 (λ _. usize) yes (λ κs x f. refl), (goes-gave-slice 𝓤 H A W 6 5 tt (plain (λ _. u8)), tt)))))))))))) (self.clauses 𝓤 H A mem run)
@@ -297,6 +297,6 @@ hca-call-spec 𝓤 H 𝓜 𝓖 𝓡 =
     (tables 𝓤 H 𝓜 𝓡 code.env .C) (tables 𝓤 H 𝓜 𝓡 code.env .Λ) #linkage·hca-call code.function (code.unfolded 𝓤 H 𝓜 𝓡)
     (meets 𝓤 H (𝓖 .A) (givenOf 𝓤 H 𝓜 𝓖) (𝓜 .mem) (𝓡 .run) (tablesOf 𝓤 H 𝓜 (tables 𝓤 H 𝓜 𝓡 code.env))
     (cited 𝓤 H (Tops 𝓤 H (𝓖 .A) (𝓜 .mem) (𝓡 .run)) 𝓜 𝓡 code.env #undo·top topping-def.routine code.calls-undo·top (topping-thm.met 𝓤 H 𝓜 𝓖 𝓡))
-    (cited 𝓤 H (Marks 𝓤 H (𝓖 .A) (𝓜 .mem) (𝓡 .run)) 𝓜 𝓡 code.env #linkage·mark-of marking-def.routine code.calls-linkage·mark-of (marking-thm.met 𝓤 H 𝓜 𝓖 𝓡))
+    (cited 𝓤 H (Marks 𝓤 H (𝓖 .A) (𝓜 .mem) (𝓡 .run)) 𝓜 𝓡 code.env #turn-call·mark-of marking-def.routine code.calls-turn-call·mark-of (marking-thm.met 𝓤 H 𝓜 𝓖 𝓡))
     (cited 𝓤 H (Reserved 𝓤 H (𝓖 .A) (𝓜 .mem) (𝓡 .run)) 𝓜 𝓡 code.env #undo·reserved-above reserving-def.routine code.calls-undo·reserved-above (reserving-thm.met 𝓤 H 𝓜 𝓖 𝓡))
-    (cited 𝓤 H (Callee 𝓤 H (𝓖 .A) (𝓜 .mem) (𝓡 .run)) 𝓜 𝓡 code.env #linkage·called callee-def.routine code.calls-linkage·called (callee-thm.met 𝓤 H 𝓜 𝓖 𝓡)))
+    (cited 𝓤 H (Callee 𝓤 H (𝓖 .A) (𝓜 .mem) (𝓡 .run)) 𝓜 𝓡 code.env #turn-call·called callee-def.routine code.calls-turn-call·called (callee-thm.met 𝓤 H 𝓜 𝓖 𝓡)))

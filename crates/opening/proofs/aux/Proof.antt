@@ -1,7 +1,7 @@
 use borrow.Author.Needs.{needs}
 use mathlib.Core.Path.{sym, _∙_}
 use Rattle.session.specs.declared.Area.the-variants.{Aux}
-use Rattle.opening.proofs.Steps.{make-many}
+use Rattle.opening_plan.proofs.Steps.{make-many}
 use Rattle.opening.proofs.aux.Statement.{statement}
 use Rattle.opening.proofs.aux.Tie as tie
 

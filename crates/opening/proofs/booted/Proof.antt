@@ -1,5 +1,5 @@
 use borrow.Author.Needs.{needs}
-use Rattle.opening.specs.Plan.{bootPlan}
+use Rattle.opening_plan.specs.Plan.{bootPlan}
 use Rattle.opening.proofs.booted.Statement.{statement}
 use Rattle.opening.proofs.booted.Tie as tie
 

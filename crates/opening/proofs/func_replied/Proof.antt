@@ -1,6 +1,6 @@
 use borrow.Author.Needs.{needs}
-use Rattle.opening.specs.Plan.{funcReplied}
-use Rattle.opening.specs.Opening.{queryFunc}
+use Rattle.opening_plan.specs.Plan.{funcReplied}
+use Rattle.opening_plan.specs.Opening.{queryFunc}
 use Rattle.opening.proofs.func_replied.Statement.{statement}
 use Rattle.opening.proofs.func_replied.Tie as tie
 

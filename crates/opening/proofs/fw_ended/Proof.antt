@@ -5,7 +5,7 @@ use Rattle.reply.specs.Replies.{queryFw, queryFwOf}
 use Rattle.reply.specs.declared.FwInfo.{FwInfo}
 use Rattle.session.specs.Session.{tookOf}
 use Rattle.session.specs.declared.Session.{Session}
-use Rattle.opening.specs.Plan.{fwReplied}
+use Rattle.opening_plan.specs.Plan.{fwReplied}
 use Rattle.opening.proofs.fw_ended.Statement.{statement}
 use Rattle.opening.proofs.fw_ended.Tie as tie
 

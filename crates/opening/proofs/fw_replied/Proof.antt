@@ -1,5 +1,5 @@
 use borrow.Author.Needs.{needs}
-use Rattle.opening.specs.Plan.{fwReplied}
+use Rattle.opening_plan.specs.Plan.{fwReplied}
 use Rattle.opening.proofs.fw_replied.Statement.{statement}
 use Rattle.opening.proofs.fw_replied.Tie as tie
 

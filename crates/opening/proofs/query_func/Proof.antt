@@ -1,6 +1,6 @@
 use borrow.Author.Needs.{needs}
 use borrow.Author.Tests.{eq-eqb, ne-eqb}
-use Rattle.opening.specs.Plan.{funcPlan}
+use Rattle.opening_plan.specs.Plan.{funcPlan}
 use Rattle.opening.proofs.query_func.Statement.{statement}
 use Rattle.opening.proofs.query_func.Tie as tie
 

@@ -1,6 +1,6 @@
 use borrow.Author.Needs.{needs}
-use Rattle.readers.specs.Readers.{books}
-use Rattle.turns.proofs.Laws.{good, enough}
+use Rattle.abi.specs.Readers.{books}
+use Rattle.abi.proofs.Turns.{good, enough}
 use Rattle.readers.proofs.books_bytes.Statement.{statement}
 use Rattle.readers.proofs.books_bytes.Tie as tie
 

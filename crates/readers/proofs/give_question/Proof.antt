@@ -1,12 +1,12 @@
 use borrow.Author.Needs.{needs}
-use Rattle.readers.proofs.Laws.{gives, question-length}
-use Rattle.readers.specs.Readers.{Read}
+use Rattle.abi.proofs.Readers.{gives, question-length}
+use Rattle.abi.specs.Readers.{Read}
 use Rattle.words_calls.specs.Calls.{questionWords}
-use Rattle.fw.specs.Calls.{asksOf}
+use Rattle.fw_plan.specs.Calls.{asksOf}
 use Rattle.words_session.proofs.Laws.{stored}
 use mathlib.Core.Path.{ap, _∙_}
 use borrow.Author.Tests.{le-leb, le-ltb, lt-leb, lt-ltb}
-use Rattle.readers.specs.Readers.{questionKnown}
+use Rattle.abi.specs.Readers.{questionKnown}
 use Rattle.readers.proofs.give_question.Statement.{statement}
 use Rattle.readers.proofs.give_question.Tie as tie
 

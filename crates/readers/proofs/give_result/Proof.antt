@@ -1,12 +1,12 @@
 use borrow.Author.Needs.{needs}
-use Rattle.readers.proofs.Laws.{gives, outcome-length}
-use Rattle.readers.specs.Readers.{Read}
+use Rattle.abi.proofs.Readers.{gives, outcome-length}
+use Rattle.abi.specs.Readers.{Read}
 use Rattle.results.specs.Results.{outcomeWords}
-use Rattle.fw.specs.Calls.{outcomeOf}
+use Rattle.fw_plan.specs.Calls.{outcomeOf}
 use Rattle.words_session.proofs.Laws.{stored}
 use mathlib.Core.Path.{ap, _∙_}
 use borrow.Author.Tests.{le-leb, le-ltb, lt-leb, lt-ltb}
-use Rattle.readers.specs.Readers.{resultKnown}
+use Rattle.abi.specs.Readers.{resultKnown}
 use Rattle.readers.proofs.give_result.Statement.{statement}
 use Rattle.readers.proofs.give_result.Tie as tie
 

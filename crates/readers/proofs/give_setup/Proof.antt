@@ -1,6 +1,6 @@
 use borrow.Author.Needs.{needs}
 use borrow.Author.Tests.{le-leb, le-ltb, lt-leb, lt-ltb}
-use Rattle.readers.specs.Readers.{setupKnown}
+use Rattle.abi.specs.Readers.{setupKnown}
 use Rattle.readers.proofs.give_setup.Statement.{statement}
 use Rattle.readers.proofs.give_setup.Tie as tie
 

@@ -1,5 +1,5 @@
 use borrow.Author.Needs.{needs}
-use Rattle.readers.specs.Readers.{question}
+use Rattle.abi.specs.Readers.{question}
 use Rattle.readers.proofs.question_bytes.Statement.{statement}
 use Rattle.readers.proofs.question_bytes.Tie as tie
 

@@ -1,5 +1,5 @@
 use borrow.Author.Needs.{needs}
-use Rattle.readers.specs.Readers.{result}
+use Rattle.abi.specs.Readers.{result}
 use Rattle.readers.proofs.result_bytes.Statement.{statement}
 use Rattle.readers.proofs.result_bytes.Tie as tie
 

@@ -1,5 +1,5 @@
 use borrow.Author.Needs.{needs}
-use Rattle.readers.specs.Readers.{setup}
+use Rattle.abi.specs.Readers.{setup}
 use Rattle.readers.proofs.setup_bytes.Statement.{statement}
 use Rattle.readers.proofs.setup_bytes.Tie as tie
 

@@ -1,0 +1,84 @@
+-- A CALL THAT IS REFUSED LEAVES EVERYTHING: where a function over C linkage gives another number than 0, the session's bytes, both mailboxes and `out` are as they were.
+-- Document 01: "19 to 22 everything", "20 and 21 leave a running session and its open question too".
+use Prim.Native.Nat.{ℕ}
+use mathlib.Core.Bool.{Bool, true, false}
+use mathlib.Core.List.{List}
+use mathlib.Core.Path.{_≡_, refl}
+use lib.Dec.{ltb}
+use lib.ListN.{length}
+use Rattle.fields.specs.Outcome.{Outcome, value, refused, pick}
+use Rattle.words_calls.specs.Calls.{heardOf}
+use Rattle.words_session.specs.Image.{decodeOf}
+use Rattle.poll.specs.Poll.{onwardOf}
+use Rattle.poll.specs.declared.Onward.{Onward}
+use Rattle.poll.specs.declared.Onward.the-variants as v
+use Rattle.pci.specs.declared.Refusal.{Refusal}
+use Rattle.pci.specs.declared.Question.{Question}
+use Rattle.pci.specs.declared.Answer.{Answer}
+use Rattle.session.specs.declared.Top.{Top}
+use Rattle.session.specs.declared.Failure.{Failure}
+use Rattle.session.specs.declared.Failure.the-variants as f
+use Rattle.session.specs.declared.Session.{Session}
+use Rattle.fw_plan.specs.Calls.{answerable, answerOf, answerIn, answerOut}
+use Rattle.fw_plan.specs.declared.Turn.{Turn}
+use Rattle.fw_plan.proofs.Refusals.{answer-left}
+use Rattle.calls_plan.specs.Calls.{callable, callOf, callIn, callOut}
+use Rattle.calls_plan.specs.declared.Call.{Call}
+use Rattle.calls_plan.proofs.Refusals.{call-left}
+use Rattle.abi.specs.Turns.{After, after, codeBy, stateBy, outBy, taken, turned, onSession, callKnown, answerKnown, called, answered}
+use Rattle.abi.specs.Calls.{wantedBy, callFrom, made, onwardBy, answer, heardBy, told}
+
+-- refused, and all four slices as they were
+abbrev pub Left : After → (state inbox outbox out : List ℕ) → Type 0
+Left y s i o w = (y .code ≡ 0 → ⊥) → y ≡ after (y .code) s i o w
+
+module _ (s i o w : List ℕ) where
+  taken-left : (z : Failure) (x : Session) (q : Question) (n : ℕ) (i' o' : List ℕ) → ((why : Refusal) → z ≡ f.By why → (i' ≡ i) × (o' ≡ o))
+      → Left (after (codeBy z) (stateBy z x s) i' o' (outBy z q n w)) s i o w
+  taken-left f.Nothing x q n i' o' h bad = absurd (bad refl)
+  taken-left (f.By why) x q n i' o' h bad = let e = h why refl in rw (e .0, e .1) refl
+
+  turned-left : (b r : Bool) (t : Turn) (i' o' : List ℕ) → ((why : Refusal) → t .refusal ≡ f.By why → (i' ≡ i) × (o' ≡ o))
+      → Left (pick b (pick r (after 21 s i o w) (taken t s i' o' w)) (after 20 s i o w)) s i o w
+  turned-left true true t i' o' h bad = refl
+  turned-left true false t i' o' h bad = taken-left (t .refusal) (t .session) (t .question) (t .undo) i' o' h bad
+  turned-left false r t i' o' h bad = refl
+
+  on-left : (z : Outcome Session) (k : Session → After) → ((x : Session) → Left (k x) s i o w) → Left (onSession z k s i o w) s i o w
+  on-left (value x) k h bad = h x bad
+  on-left (refused n vs) k h bad = refl
+
+  -- a call and an answer on the bytes of a session
+  pub called-left : (c : Call) (y : List ℕ) (u : Top) → Left (called c y u s i o w) s i o w
+  unfolding called callKnown
+  called-left c y u =
+      on-left (decodeOf s) (λ x. callKnown x c y u s i o w) (λ x. turned-left (callable x c) (ltb (length w) 40) (callOf x c y i o u) (callIn x c y i o u) (callOut x c y i o u) (call-left x c y i o u))
+
+  pub answered-left : (a : Answer) (r : List ℕ) (u : Top) → Left (answered a r u s i o w) s i o w
+  unfolding answered answerKnown
+  answered-left a r u =
+      on-left (decodeOf s) (λ x. answerKnown x a r u s i o w)
+      (λ x. turned-left (answerable x a) (ltb (length w) 40) (answerOf x a r i o u) (answerIn x a r i o u) (answerOut x a r i o u) (answer-left x a r i o u))
+
+  -- the same from numbers: `hca_call`, `hca_answer`
+  wanted-left : (z : Outcome Call) (y : List ℕ) (u : Top) → Left (wantedBy z y u s i o w) s i o w
+  wanted-left (value c) y u = called-left c y u
+  wanted-left (refused n vs) y u = λ bad. refl
+
+  pub made-left : (kind op opMod inMod x : ℕ) (reserved : Bool) (y : List ℕ) (u : Top) → Left (made kind op opMod inMod x reserved y u s i o w) s i o w
+  unfolding made
+  made-left kind op opMod inMod x reserved y u = wanted-left (callFrom kind op opMod inMod x reserved) y u
+
+  onward-left : (z : Onward) (a : Answer) (r : List ℕ) (u : Top) → Left (onwardBy z a r u s i o w) s i o w
+  onward-left (v.Stall n) a r u = λ bad. absurd (bad refl)
+  onward-left (v.Read n) a r u = λ bad. absurd (bad refl)
+  onward-left v.Other a r u = answered-left a r u
+
+  heard-left : (z : Outcome Answer) (r : List ℕ) (u : Top) → Left (heardBy z r u s i o w) s i o w
+  unfolding answer
+  heard-left (value a) r u = onward-left (onwardOf s a i o (u .count) w) a r u
+  heard-left (refused n vs) r u = λ bad. refl
+
+  pub told-left : (kind x y : ℕ) (r : List ℕ) (u : Top) → Left (told kind x y r u s i o w) s i o w
+  unfolding told
+  told-left kind x y r u = heard-left (heardOf kind x y) r u

@@ -1,0 +1,4 @@
+pub mod Copies
+pub mod Lands
+pub mod Steps
+pub mod Told

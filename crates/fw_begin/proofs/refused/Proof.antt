@@ -1,0 +1,13 @@
+use borrow.Author.Needs.{needs}
+use Rattle.fw_begin.proofs.refused.Statement.{statement}
+use Rattle.fw_begin.proofs.refused.Tie as tie
+
+returns : tie.Need-returns
+returns c = simp (c .asks .ensures)
+
+pub refused-spec : {M : Type 1} → statement M
+refused-spec =
+    tie.close
+    (tie.spec
+    (λ c κs. search needs)
+    returns)

@@ -1,0 +1,4 @@
+pub mod Landed
+pub mod Refusals
+pub mod Session
+pub mod Steps

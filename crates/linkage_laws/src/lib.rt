@@ -1,1 +1,0 @@
-// No code: what is shown of the calls over C linkage stands in proofs/.

@@ -1,0 +1,30 @@
+use borrow.Author.Needs.{needs}
+use Rattle.preparing.proofs.claimed.Statement.{statement}
+use Rattle.preparing.proofs.claimed.Tie as tie
+
+returns : tie.Need-returns
+returns c = simp (
+  c .before .before .enum-told .given .1,
+  c .before .resets .ensures,
+  c .plan .ensures,
+)
+
+returns-2 : tie.Need-returns-2
+returns-2 c = simp (
+  c .before .before .enum-told2 .given .1,
+  c .before .gives-up .ensures,
+  c .restore .ensures,
+)
+
+pub claimed-spec : {M : Type 1} → statement M
+claimed-spec =
+    tie.close
+    (tie.spec
+    (λ c. search needs)
+    (λ c κs. search needs)
+    (λ c κs. search needs)
+    (λ c. search needs)
+    (λ c κs. search needs)
+    (λ c κs. search needs)
+    returns
+    returns-2)

@@ -1,0 +1,28 @@
+use borrow.Author.Needs.{needs}
+use Rattle.preparing.proofs.found.Statement.{statement}
+use Rattle.preparing.proofs.found.Tie as tie
+
+returns : tie.Need-returns
+returns c = simp (
+  c .before .before .before .before .before .before .before .y .given .1,
+  c .before .with-info .ensures,
+  c .box-plan .ensures,
+)
+
+returns-2 : tie.Need-returns-2
+returns-2 c = simp (
+  c .before .enum-told .given .1,
+  c .part .ensures,
+)
+
+pub found-spec : {M : Type 1} → statement M
+found-spec =
+    tie.close
+    (tie.spec
+    (λ c. search needs)
+    (λ c κs. search needs)
+    (λ c κs. search needs)
+    (λ c. search needs)
+    (λ c κs. search needs)
+    returns
+    returns-2)

@@ -1,0 +1,113 @@
+// One answer to the open question of the session that bytes hold: it is read, the answer is taken, and it is written again; a poll that goes on touches its own words
+// alone. And an answer as its kind and its values.
+use abi::SHORT;
+use abi::WRONG;
+use pci::Answer;
+use poll::Onward;
+use session::Session;
+use session::Top;
+use words_calls::Heard;
+use words_session::Kept;
+ghost use mathlib.Core.Path.{_≡_};
+ghost use Rattle.abi.specs.Turns as t;
+ghost use Rattle.abi.specs.Calls as c;
+
+// An answer on a session that was read: 20 where it is not the time for it, then 21 where there is no room for what it says.
+fn answer_of(
+    s: Session,
+    a: Answer,
+    resource: &[u8],
+    inbox: &mut [u8],
+    outbox: &mut [u8],
+    top: Top,
+    state: &mut [u8],
+    out: &mut [u8],
+) -> u32
+    ensures { λ r. ⌜ r ≡ t.answerKnown s a (now (resource .entry)) top (now (state .entry)) (now (inbox .entry)) (now (outbox .entry)) (now (out .entry)) .code ⌝ }
+    ensures { λ _. ⌜ now (state .exit) ≡ t.answerKnown s a (now (resource .entry)) top (now (state .entry)) (now (inbox .entry)) (now (outbox .entry)) (now (out .entry)) .state ⌝ }
+    ensures { λ _. ⌜ now (inbox .exit) ≡ t.answerKnown s a (now (resource .entry)) top (now (state .entry)) (now (inbox .entry)) (now (outbox .entry)) (now (out .entry)) .inbox ⌝ }
+    ensures { λ _. ⌜ now (outbox .exit) ≡ t.answerKnown s a (now (resource .entry)) top (now (state .entry)) (now (inbox .entry)) (now (outbox .entry)) (now (out .entry)) .outbox ⌝ }
+    ensures { λ _. ⌜ now (out .exit) ≡ t.answerKnown s a (now (resource .entry)) top (now (state .entry)) (now (inbox .entry)) (now (outbox .entry)) (now (out .entry)) .out ⌝ }
+{
+    if fw_begin::answerable(s, a) {
+        if out.len() < turns::TURN {
+            return SHORT;
+        }
+        let t = fw::answer(s, a, resource, inbox, outbox, top);
+        return turns::taken(t, state, out);
+    }
+    WRONG
+}
+
+// Hands the session that the bytes hold the answer to its open question.
+pub fn answer_bytes(
+    state: &mut [u8],
+    a: Answer,
+    resource: &[u8],
+    inbox: &mut [u8],
+    outbox: &mut [u8],
+    top: Top,
+    out: &mut [u8],
+) -> u32
+    ensures { λ r. ⌜ r ≡ t.answered a (now (resource .entry)) top (now (state .entry)) (now (inbox .entry)) (now (outbox .entry)) (now (out .entry)) .code ⌝ }
+    ensures { λ _. ⌜ now (state .exit) ≡ t.answered a (now (resource .entry)) top (now (state .entry)) (now (inbox .entry)) (now (outbox .entry)) (now (out .entry)) .state ⌝ }
+    ensures { λ _. ⌜ now (inbox .exit) ≡ t.answered a (now (resource .entry)) top (now (state .entry)) (now (inbox .entry)) (now (outbox .entry)) (now (out .entry)) .inbox ⌝ }
+    ensures { λ _. ⌜ now (outbox .exit) ≡ t.answered a (now (resource .entry)) top (now (state .entry)) (now (inbox .entry)) (now (outbox .entry)) (now (out .entry)) .outbox ⌝ }
+    ensures { λ _. ⌜ now (out .exit) ≡ t.answered a (now (resource .entry)) top (now (state .entry)) (now (inbox .entry)) (now (outbox .entry)) (now (out .entry)) .out ⌝ }
+{
+    let d = words_session::decode(state);
+    let kept = d.outcome;
+    let s = d.session;
+    match kept {
+        Kept::Good => answer_of(s, a, resource, inbox, outbox, top, state, out),
+        Kept::Short => SHORT,
+        Kept::NoSession => WRONG,
+    }
+}
+
+// An answer of a known kind: a poll that goes on touches its own words alone.
+fn answer_told(
+    state: &mut [u8],
+    a: Answer,
+    resource: &[u8],
+    inbox: &mut [u8],
+    outbox: &mut [u8],
+    top: Top,
+    out: &mut [u8],
+) -> u32
+    ensures { λ r. ⌜ r ≡ c.answer a (now (resource .entry)) top (now (state .entry)) (now (inbox .entry)) (now (outbox .entry)) (now (out .entry)) .code ⌝ }
+    ensures { λ _. ⌜ now (state .exit) ≡ c.answer a (now (resource .entry)) top (now (state .entry)) (now (inbox .entry)) (now (outbox .entry)) (now (out .entry)) .state ⌝ }
+    ensures { λ _. ⌜ now (inbox .exit) ≡ c.answer a (now (resource .entry)) top (now (state .entry)) (now (inbox .entry)) (now (outbox .entry)) (now (out .entry)) .inbox ⌝ }
+    ensures { λ _. ⌜ now (outbox .exit) ≡ c.answer a (now (resource .entry)) top (now (state .entry)) (now (inbox .entry)) (now (outbox .entry)) (now (out .entry)) .outbox ⌝ }
+    ensures { λ _. ⌜ now (out .exit) ≡ c.answer a (now (resource .entry)) top (now (state .entry)) (now (inbox .entry)) (now (outbox .entry)) (now (out .entry)) .out ⌝ }
+{
+    match poll::leads(state, a, inbox, outbox, top.count, out) {
+        Onward::Stall(stalls) => poll::stall_next(state, stalls, top.count, out),
+        Onward::Read(stalls) => poll::read_next(state, stalls, top.count, out),
+        Onward::Other => answer_bytes(state, a, resource, inbox, outbox, top, out),
+    }
+}
+
+// An answer as its kind and two values.
+pub fn answered(
+    state: &mut [u8],
+    kind: u32,
+    a: u64,
+    b: u64,
+    resource: &[u8],
+    inbox: &mut [u8],
+    outbox: &mut [u8],
+    top: Top,
+    out: &mut [u8],
+) -> u32
+    ensures { λ r. ⌜ r ≡ c.told kind a b (now (resource .entry)) top (now (state .entry)) (now (inbox .entry)) (now (outbox .entry)) (now (out .entry)) .code ⌝ }
+    ensures { λ _. ⌜ now (state .exit) ≡ c.told kind a b (now (resource .entry)) top (now (state .entry)) (now (inbox .entry)) (now (outbox .entry)) (now (out .entry)) .state ⌝ }
+    ensures { λ _. ⌜ now (inbox .exit) ≡ c.told kind a b (now (resource .entry)) top (now (state .entry)) (now (inbox .entry)) (now (outbox .entry)) (now (out .entry)) .inbox ⌝ }
+    ensures { λ _. ⌜ now (outbox .exit) ≡ c.told kind a b (now (resource .entry)) top (now (state .entry)) (now (inbox .entry)) (now (outbox .entry)) (now (out .entry)) .outbox ⌝ }
+    ensures { λ _. ⌜ now (out .exit) ≡ c.told kind a b (now (resource .entry)) top (now (state .entry)) (now (inbox .entry)) (now (outbox .entry)) (now (out .entry)) .out ⌝ }
+{
+    match words_calls::answer_from(kind, a, b) {
+        Heard::Told(x) => answer_told(state, x, resource, inbox, outbox, top, out),
+        Heard::Unknown => abi::WRONG,
+    }
+}

@@ -1,0 +1,133 @@
+// One call on the session that bytes hold: it is read, the call is made, and it is written again. And a call as its kind and its values.
+use abi::SHORT;
+use abi::WRONG;
+use abi::Wanted;
+use calls_plan::Call;
+use client_plan::Request;
+use session::Form;
+use session::Session;
+use session::Top;
+use words_session::Kept;
+ghost use mathlib.Core.Path.{_≡_};
+ghost use Rattle.abi.specs.Turns as t;
+ghost use Rattle.abi.specs.Calls as c;
+
+// A call on a session that was read: 20 where it is not the time for it, then 21 where there is no room for what it says.
+fn call_of(
+    s: Session,
+    call: Call,
+    input: &[u8],
+    inbox: &mut [u8],
+    outbox: &mut [u8],
+    top: Top,
+    state: &mut [u8],
+    out: &mut [u8],
+) -> u32
+    ensures { λ r. ⌜ r ≡ t.callKnown s call (now (input .entry)) top (now (state .entry)) (now (inbox .entry)) (now (outbox .entry)) (now (out .entry)) .code ⌝ }
+    ensures { λ _. ⌜ now (state .exit) ≡ t.callKnown s call (now (input .entry)) top (now (state .entry)) (now (inbox .entry)) (now (outbox .entry)) (now (out .entry)) .state ⌝ }
+    ensures { λ _. ⌜ now (inbox .exit) ≡ t.callKnown s call (now (input .entry)) top (now (state .entry)) (now (inbox .entry)) (now (outbox .entry)) (now (out .entry)) .inbox ⌝ }
+    ensures { λ _. ⌜ now (outbox .exit) ≡ t.callKnown s call (now (input .entry)) top (now (state .entry)) (now (inbox .entry)) (now (outbox .entry)) (now (out .entry)) .outbox ⌝ }
+    ensures { λ _. ⌜ now (out .exit) ≡ t.callKnown s call (now (input .entry)) top (now (state .entry)) (now (inbox .entry)) (now (outbox .entry)) (now (out .entry)) .out ⌝ }
+{
+    if calls::callable(s, call) {
+        if out.len() < turns::TURN {
+            return SHORT;
+        }
+        let t = calls::make(s, call, input, inbox, outbox, top);
+        return turns::taken(t, state, out);
+    }
+    WRONG
+}
+
+// Makes a call on the session that the bytes hold.
+pub fn call_bytes(
+    state: &mut [u8],
+    call: Call,
+    input: &[u8],
+    inbox: &mut [u8],
+    outbox: &mut [u8],
+    top: Top,
+    out: &mut [u8],
+) -> u32
+    ensures { λ r. ⌜ r ≡ t.called call (now (input .entry)) top (now (state .entry)) (now (inbox .entry)) (now (outbox .entry)) (now (out .entry)) .code ⌝ }
+    ensures { λ _. ⌜ now (state .exit) ≡ t.called call (now (input .entry)) top (now (state .entry)) (now (inbox .entry)) (now (outbox .entry)) (now (out .entry)) .state ⌝ }
+    ensures { λ _. ⌜ now (inbox .exit) ≡ t.called call (now (input .entry)) top (now (state .entry)) (now (inbox .entry)) (now (outbox .entry)) (now (out .entry)) .inbox ⌝ }
+    ensures { λ _. ⌜ now (outbox .exit) ≡ t.called call (now (input .entry)) top (now (state .entry)) (now (inbox .entry)) (now (outbox .entry)) (now (out .entry)) .outbox ⌝ }
+    ensures { λ _. ⌜ now (out .exit) ≡ t.called call (now (input .entry)) top (now (state .entry)) (now (inbox .entry)) (now (outbox .entry)) (now (out .entry)) .out ⌝ }
+{
+    let d = words_session::decode(state);
+    let kept = d.outcome;
+    let s = d.session;
+    match kept {
+        Kept::Good => call_of(s, call, input, inbox, outbox, top, state, out),
+        Kept::Short => SHORT,
+        Kept::NoSession => WRONG,
+    }
+}
+
+// The mark that a value stands for.
+pub fn mark_of(value: u64) -> usize
+    ensures { λ r. ⌜ r ≡ value ⌝ }
+{
+    value as usize
+}
+
+// A client's command.
+fn command(form: Form, op: u16, op_mod: u8, in_mod: u32, in_param: u64) -> Wanted
+    ensures { λ r. ⌜ c.callAs r ≡ c.commandFrom form op «op_mod» «in_mod» «in_param» ⌝ }
+{
+    let r = Request {
+        form,
+        op,
+        op_mod,
+        in_mod,
+        in_param,
+    };
+    Wanted::Known(Call::Command(r))
+}
+
+// The call of a kind with its values; those that its kind has not are not looked at. `reserved` is whether an undo record above the mark has a reserved opcode.
+fn call_from(kind: u32, op: u16, op_mod: u8, in_mod: u32, value: u64, reserved: bool) -> Wanted
+    ensures { λ r. ⌜ c.callAs r ≡ c.callFrom kind op «op_mod» «in_mod» value reserved ⌝ }
+{
+    match kind {
+        0 => Wanted::Known(Call::Open),
+        1 => command(Form::Imm, op, op_mod, in_mod, value),
+        2 => command(Form::WithIn, op, op_mod, in_mod, value),
+        3 => command(Form::WithOut, op, op_mod, in_mod, value),
+        4 => command(Form::InImm, op, op_mod, in_mod, value),
+        5 => command(Form::InOut, op, op_mod, in_mod, value),
+        6 => Wanted::Known(Call::Lend(value)),
+        7 => Wanted::Known(Call::UndoTo(mark_of(value), reserved)),
+        8 => Wanted::Known(Call::Quiesce),
+        9 => Wanted::Known(Call::Close),
+        _ => Wanted::Unknown,
+    }
+}
+
+// A call as its kind and its values, with what it takes of the undo list.
+pub fn called(
+    state: &mut [u8],
+    kind: u32,
+    op: u16,
+    op_mod: u8,
+    in_mod: u32,
+    value: u64,
+    reserved: bool,
+    input: &[u8],
+    inbox: &mut [u8],
+    outbox: &mut [u8],
+    top: Top,
+    out: &mut [u8],
+) -> u32
+    ensures { λ r. ⌜ r ≡ c.made kind op «op_mod» «in_mod» value reserved (now (input .entry)) top (now (state .entry)) (now (inbox .entry)) (now (outbox .entry)) (now (out .entry)) .code ⌝ }
+    ensures { λ _. ⌜ now (state .exit) ≡ c.made kind op «op_mod» «in_mod» value reserved (now (input .entry)) top (now (state .entry)) (now (inbox .entry)) (now (outbox .entry)) (now (out .entry)) .state ⌝ }
+    ensures { λ _. ⌜ now (inbox .exit) ≡ c.made kind op «op_mod» «in_mod» value reserved (now (input .entry)) top (now (state .entry)) (now (inbox .entry)) (now (outbox .entry)) (now (out .entry)) .inbox ⌝ }
+    ensures { λ _. ⌜ now (outbox .exit) ≡ c.made kind op «op_mod» «in_mod» value reserved (now (input .entry)) top (now (state .entry)) (now (inbox .entry)) (now (outbox .entry)) (now (out .entry)) .outbox ⌝ }
+    ensures { λ _. ⌜ now (out .exit) ≡ c.made kind op «op_mod» «in_mod» value reserved (now (input .entry)) top (now (state .entry)) (now (inbox .entry)) (now (outbox .entry)) (now (out .entry)) .out ⌝ }
+{
+    match call_from(kind, op, op_mod, in_mod, value, reserved) {
+        Wanted::Known(x) => call_bytes(state, x, input, inbox, outbox, top, out),
+        Wanted::Unknown => abi::WRONG,
+    }
+}
