@@ -1,0 +1,449 @@
+-- WRONG ANSWERS of functions on words, as in `wrong/specs/Wrong.antt`. What is read from words is told by the words that it has.
+use Prim.Native.Nat.{ℕ, _%_}
+use mathlib.Core.Bool.{true, false}
+use mathlib.Core.List.{List, [], _∷_, _++_}
+use lib.Dec.{eqb}
+use lib.ListN.{length, take, drop, replicate}
+use Rattle.fields.specs.Outcome.{Outcome, value, refused, pick, numberOf}
+use Rattle.wrong.specs.Wrong.{Row, row, yes}
+use Rattle.words.specs.Words.{at, within, wordsIn, putWords, sameWords, bitOf}
+use Rattle.words_task.specs.Coding.{faultWords, faultOf, catasWords, catasOf, taskWords, taskOf}
+use Rattle.words_beside.specs.Coding.{resetWords, resetOf, findWords, findOf}
+use Rattle.words_info.specs.Coding.{pickOf, funcOf, toldWords, toldOf, capWords, capOf, portWords, portOf}
+use Rattle.words_stage.specs.Coding.{stageWords, stageOf}
+use Rattle.words_books.specs.Coding.{refusalWords, refusalOf, bufferWords, bufferOf, ledgerWords, ledgerOf}
+use Rattle.words_books.specs.declared.Ledger.{Ledger}
+use Rattle.words_session.specs.Image.{toldFor, decodeOf, wroteOf, encodedIn, putSession}
+use Rattle.words_calls.specs.Calls.{questionWords, turnIn, heardOf}
+use Rattle.poll.specs.Poll.{pollOf, pollOn, onwardOf, stallIn, readIn}
+use Rattle.poll.specs.declared.Poll.{Poll}
+use Rattle.poll.specs.declared.Poll.the-variants as pl
+use Rattle.poll.specs.declared.Onward.{Onward}
+use Rattle.poll.specs.declared.Onward.the-variants as po
+use Rattle.results.specs.Results.{outcomeWords, merged, portsOf, putSaid, setupIn}
+use Rattle.bars.specs.declared.BarRange.{BarRange}
+use Rattle.bars.specs.declared.BarRange.the-variants as br
+use Rattle.bars.specs.declared.Candidate.{Candidate}
+use Rattle.bars.specs.declared.Asking.the-variants as ba
+use Rattle.dma.specs.declared.Buffer.{Buffer}
+use Rattle.dma.specs.declared.Virt.the-variants as lv
+use Rattle.hcr.specs.Words.{stallOf}
+use Rattle.hcr.specs.declared.Post.{Post}
+use Rattle.pci.specs.declared.Question.the-variants as q
+use Rattle.pci.specs.declared.Answer.{Answer}
+use Rattle.pci.specs.declared.Answer.the-variants as a
+use Rattle.pci.specs.declared.Refusal.the-variants as r
+use Rattle.command.specs.declared.Catas.the-variants as ck
+use Rattle.command.specs.declared.Phase.the-variants as cp
+use Rattle.command.specs.declared.Cmd.{Cmd}
+use Rattle.reset.specs.declared.Control.the-variants as rc
+use Rattle.reset.specs.declared.Phase.the-variants as rp
+use Rattle.reset.specs.declared.Reset.{Reset}
+use Rattle.buffer.specs.declared.Fault.the-variants as f
+use Rattle.buffer.specs.declared.MakePhase.the-variants as mp
+use Rattle.buffer.specs.declared.FreePhase.the-variants as fp
+use Rattle.tasks.specs.declared.Attr.the-variants as tp
+use Rattle.tasks.specs.declared.Claim.the-variants as lp
+use Rattle.tasks.specs.declared.Parting.the-variants as pp
+use Rattle.uar.specs.declared.BarPhase.{BarPhase}
+use Rattle.uar.specs.declared.BarPhase.the-variants as up
+use Rattle.uar.specs.declared.FindBar.{FindBar}
+use Rattle.work.specs.declared.Task.{Task}
+use Rattle.work.specs.declared.Task.the-variants as wt
+use Rattle.session.specs.Session.{fresh, starts}
+use Rattle.session.specs.declared.Hold.the-variants as o
+use Rattle.session.specs.declared.Info.{Info}
+use Rattle.session.specs.declared.Area.the-variants as ar
+use Rattle.session.specs.declared.Prepare.the-variants as pr
+use Rattle.session.specs.declared.Boot.the-variants as bo
+use Rattle.session.specs.declared.Close.the-variants as cl
+use Rattle.session.specs.declared.Form.the-variants as fo
+use Rattle.session.specs.declared.Client.the-variants as ci
+use Rattle.session.specs.declared.Gave.the-variants as ga
+use Rattle.session.specs.declared.Stage.{Stage}
+use Rattle.session.specs.declared.Stage.the-variants as st
+use Rattle.session.specs.declared.Failure.the-variants as fa
+use Rattle.session.specs.declared.Closing.the-variants as co
+use Rattle.fw_plan.specs.declared.Outcome.the-variants as u
+
+abbrev zeros : ℕ → List ℕ
+zeros n = replicate n 0
+
+-- three words of bytes
+abbrev bytes : List ℕ
+bytes = 1 ∷ 2 ∷ 3 ∷ 4 ∷ 5 ∷ 6 ∷ 7 ∷ 8 ∷ 9 ∷ 10 ∷ 11 ∷ 12 ∷ 13 ∷ 14 ∷ 15 ∷ 16 ∷ 17 ∷ 18 ∷ 19 ∷ 20 ∷ 21 ∷ 22 ∷ 23 ∷ 24 ∷ []
+
+-- numbers from 1 on
+abbrev rising : List ℕ
+rising = bytes ++ (25 ∷ 26 ∷ 27 ∷ 28 ∷ 29 ∷ 30 ∷ 31 ∷ 32 ∷ [])
+
+-- load, store and same, as their contracts have them
+abbrev loaded : List ℕ → ℕ → List ℕ → List ℕ
+loaded s k w = pick (within s k (length w)) (wordsIn s k (length w)) w
+
+abbrev stored : List ℕ → ℕ → List ℕ → List ℕ
+stored s k w = pick (within s k (length w)) (putWords s k w) s
+
+abbrev sameIn : List ℕ → ℕ → List ℕ → ℕ
+sameIn s k w = yes (pick (within s k (length w)) (sameWords s k w) false)
+
+abbrev pub words : List Row
+words =
+    -- room (two words in 16 bytes: from 0, from 1, none from 2; two in 15): they may pass the end; a part of a word counts
+    row (yes (within (zeros 16) 0 2) ∷ yes (within (zeros 16) 1 2) ∷ yes (within (zeros 16) 2 0) ∷ yes (within (zeros 15) 0 2) ∷ []) (1 ∷ 1 ∷ 1 ∷ 0 ∷ []) (1 ∷ 0 ∷ 1 ∷ 1 ∷ []) ∷
+    -- load of a word: its second half one byte early; the other order
+    row (loaded bytes 0 (0 ∷ [])) (0x0102030404050607 ∷ []) (0x0807060504030201 ∷ []) ∷
+    -- load of two words: every other; from the next on
+    row (loaded bytes 0 (0 ∷ 0 ∷ [])) (0x0102030405060708 ∷ 0x1112131415161718 ∷ []) (0x090a0b0c0d0e0f10 ∷ 0x1112131415161718 ∷ []) ∷
+    -- load past the end: what is there; zeros
+    row (loaded bytes 2 (7 ∷ 8 ∷ [])) (0x1112131415161718 ∷ 8 ∷ []) (0 ∷ 0 ∷ []) ∷
+    -- store of two words: seven bytes apart; the other order
+    row (stored (zeros 16) 0 (1 ∷ 2 ∷ [])) (zeros 14 ++ (2 ∷ 0 ∷ [])) (1 ∷ (zeros 7 ++ (2 ∷ zeros 7))) ∷
+    -- store past the end: what fits; at the end
+    row (stored (zeros 16) 1 (1 ∷ 2 ∷ [])) (zeros 15 ++ (1 ∷ [])) (zeros 15 ++ (2 ∷ [])) ∷
+    -- same (the same words, others, past the end): words that differ are; past the end too
+    row (sameIn (zeros 15 ++ (2 ∷ [])) 0 (0 ∷ 2 ∷ []) ∷ sameIn (zeros 15 ++ (2 ∷ [])) 0 (0 ∷ 3 ∷ []) ∷ sameIn (zeros 16) 1 (0 ∷ 0 ∷ []) ∷ []) (1 ∷ 1 ∷ 0 ∷ []) (1 ∷ 0 ∷ 1 ∷ []) ∷
+    -- bit (true, false): true is 2; exchanged
+    row (bitOf true ∷ bitOf false ∷ []) (2 ∷ 0 ∷ []) (0 ∷ 1 ∷ []) ∷
+    -- flag (0, 1, 2): all but 0; exchanged
+    row (yes (eqb 0 1) ∷ yes (eqb 1 1) ∷ yes (eqb 2 1) ∷ []) (0 ∷ 1 ∷ 1 ∷ []) (1 ∷ 0 ∷ 0 ∷ []) ∷
+    -- wide8, wide16, wide32, long and size, whose contracts say the number itself: with its sign; without its top bit
+    row (0xff ∷ 0xffff ∷ 0xffffffff ∷ 0xffffffffffffffff ∷ 0xffffffffffffffff ∷ [])
+    (0xffffffffffffffff ∷ 0xffffffffffffffff ∷ 0xffffffffffffffff ∷ 0xffffffffffffffff ∷ 0xffffffffffffffff ∷ []) (0x7f ∷ 0x7fff ∷ 0x7fffffff ∷ 0x7fffffffffffffff ∷ 0x7fffffffffffffff ∷ []) ∷
+    -- narrow8, narrow16, narrow32: the highest of its kind where it is wider; the upper part
+    row (0x102 % 256 ∷ 0x10002 % 65536 ∷ 0x100000002 % 4294967296 ∷ []) (0xff ∷ 0xffff ∷ 0xffffffff ∷ []) (1 ∷ 1 ∷ 1 ∷ []) ∷
+    []
+
+-- THE TASK UNDER WAY
+abbrev post : Post
+post = record { op = 0x43; «op_mod» = 1; «in_mod» = 2; «in_param» = 5; «out_param» = 6 }
+
+abbrev cmd : Cmd
+cmd = record { phase = cp.Low 9; post = post; toggle = true; stalls = 3; catas = ck.Known 2 0x100 }
+
+-- the number of a task
+abbrev taskNo : Task → ℕ
+taskNo k = at (taskWords k) 0
+
+abbrev taskRead : List ℕ → List ℕ
+taskRead w = taskWords (taskOf w)
+
+abbrev readNo : ℕ → ℕ
+readNo n = at (taskRead (n ∷ zeros 12)) 0
+
+abbrev pub tasks : List Row
+tasks =
+    -- fault_words: tags swapped; every fault is one
+    row (faultWords f.Memory ++ faultWords f.Address) (1 ∷ 0 ∷ []) (0 ∷ 0 ∷ []) ∷
+    -- fault_from (0, 1, 2): tags swapped; all but 0
+    row (faultWords (faultOf 0) ++ (faultWords (faultOf 1) ++ faultWords (faultOf 2))) (1 ∷ 0 ∷ 1 ∷ []) (0 ∷ 1 ∷ 1 ∷ []) ∷
+    -- catas_words: tags swapped; offset for BAR
+    row (catasWords (ck.Known 2 0x100) ++ catasWords ck.Unknown) (1 ∷ 2 ∷ 0x100 ∷ 0 ∷ 0 ∷ 0 ∷ []) (0 ∷ 0x100 ∷ 2 ∷ 1 ∷ 0 ∷ 0 ∷ []) ∷
+    -- catas_from: tags swapped; a BAR of nine bits
+    row (catasWords (catasOf 0 0x102 0x100) ++ catasWords (catasOf 1 2 3)) (1 ∷ 0 ∷ 0 ∷ 0 ∷ 2 ∷ 3 ∷ []) (0 ∷ 0x102 ∷ 0x100 ∷ 1 ∷ 0 ∷ 0 ∷ []) ∷
+    -- task_words, the numbers: two tasks have one; a reset and a search change places
+    row (taskNo wt.Rest ∷ taskNo (wt.Attr tp.Get) ∷ taskNo (wt.Claim lp.Command) ∷ taskNo wt.Reset ∷ taskNo wt.Bar ∷ taskNo wt.Look ∷ taskNo (wt.Cmd cmd) ∷ taskNo (wt.Part pp.Disown) ∷ [])
+    (0 ∷ 1 ∷ 2 ∷ 3 ∷ 4 ∷ 3 ∷ 8 ∷ 9 ∷ []) (0 ∷ 1 ∷ 2 ∷ 4 ∷ 3 ∷ 7 ∷ 8 ∷ 9 ∷ []) ∷
+    -- task_words of a command: the stalls are not kept; the parameters change places
+    row (taskWords (wt.Cmd cmd)) (8 ∷ 9 ∷ 9 ∷ 0x43 ∷ 1 ∷ 2 ∷ 5 ∷ 6 ∷ 1 ∷ 0 ∷ 0 ∷ 2 ∷ 0x100 ∷ []) (8 ∷ 9 ∷ 9 ∷ 0x43 ∷ 1 ∷ 2 ∷ 6 ∷ 5 ∷ 1 ∷ 3 ∷ 0 ∷ 2 ∷ 0x100 ∷ []) ∷
+    -- of attributes: those of before are lost; the tag of another question
+    row (take 4 (taskWords (wt.Attr (tp.Enable 5 6)))) (1 ∷ 2 ∷ 6 ∷ 6 ∷ []) (1 ∷ 1 ∷ 5 ∷ 6 ∷ []) ∷
+    -- of a claim: the word is lost; the owner's tag
+    row (take 3 (taskWords (wt.Claim (lp.Write 5)))) (2 ∷ 1 ∷ 0 ∷ []) (2 ∷ 2 ∷ 5 ∷ []) ∷
+    -- of a buffer that is made: the fault is lost; freed before it is unmapped
+    row (take 5 (taskWords (wt.Make (record { bytes = 8192; phase = mp.Unmap 7 f.Address })))) (5 ∷ 8192 ∷ 2 ∷ 7 ∷ 0 ∷ []) (5 ∷ 8192 ∷ 3 ∷ 7 ∷ 1 ∷ []) ∷
+    -- of one that is freed: handle and pages change places; unmapped again
+    row (take 4 (taskWords (wt.Free (record { handle = 7; pages = 2; phase = fp.Free })))) (6 ∷ 2 ∷ 7 ∷ 1 ∷ []) (6 ∷ 7 ∷ 2 ∷ 0 ∷ []) ∷
+    -- of a parting: the attributes are lost; the word to be written
+    row (take 3 (taskWords (wt.Part (pp.Restore 5)))) (9 ∷ 2 ∷ 0 ∷ []) (9 ∷ 5 ∷ 5 ∷ []) ∷
+    -- task_from, the numbers: a reset is read as a search; one above 9 as a parting
+    row (readNo 0 ∷ readNo 1 ∷ readNo 2 ∷ readNo 3 ∷ readNo 4 ∷ readNo 5 ∷ readNo 6 ∷ readNo 7 ∷ readNo 8 ∷ readNo 9 ∷ readNo 10 ∷ [])
+    (0 ∷ 1 ∷ 2 ∷ 4 ∷ 4 ∷ 5 ∷ 6 ∷ 7 ∷ 8 ∷ 9 ∷ 0 ∷ []) (0 ∷ 1 ∷ 2 ∷ 3 ∷ 4 ∷ 5 ∷ 6 ∷ 7 ∷ 8 ∷ 9 ∷ 9 ∷ []) ∷
+    -- task_from of a command: the opcode is read from the modifier; the stalls are not read
+    row (taskRead (8 ∷ 9 ∷ 9 ∷ 0x43 ∷ 1 ∷ 2 ∷ 5 ∷ 6 ∷ 1 ∷ 3 ∷ 0 ∷ 2 ∷ 0x100 ∷ [])) (8 ∷ 9 ∷ 9 ∷ 1 ∷ 1 ∷ 2 ∷ 5 ∷ 6 ∷ 1 ∷ 3 ∷ 0 ∷ 2 ∷ 0x100 ∷ []) (8 ∷ 9 ∷ 9 ∷ 0x43 ∷ 1 ∷ 2 ∷ 5 ∷ 6 ∷ 1 ∷ 0 ∷ 0 ∷ 2 ∷ 0x100 ∷ []) ∷
+    -- of attributes: the values change places; one value for both
+    row (take 4 (taskRead (1 ∷ 2 ∷ 5 ∷ 6 ∷ zeros 9))) (1 ∷ 2 ∷ 6 ∷ 5 ∷ []) (1 ∷ 2 ∷ 5 ∷ 5 ∷ []) ∷
+    -- of a buffer that is made: the handle for the bytes; another fault
+    row (take 5 (taskRead (5 ∷ 8192 ∷ 2 ∷ 7 ∷ 1 ∷ zeros 8))) (5 ∷ 7 ∷ 2 ∷ 7 ∷ 1 ∷ []) (5 ∷ 8192 ∷ 2 ∷ 7 ∷ 0 ∷ []) ∷
+    []
+
+-- WHAT STANDS BESIDE IT
+abbrev reset : Reset
+reset = record { phase = rp.Link 0x40 7; dwords = take 16 rising; control = rc.Saved 0x48 8 9 }
+
+abbrev candidate : ℕ → BarRange → Candidate
+candidate i x = record { index = i; answer = x }
+
+abbrev find : BarPhase → FindBar
+find p = record { phase = p; dwords = take 6 rising }
+
+abbrev choosing : BarPhase
+choosing = up.Choosing (record { base = 0x50; first = candidate 2 (br.Range 3 4); second = candidate 1 br.NoAnswer; asking = ba.Other 5 })
+
+abbrev pub besides : List Row
+besides =
+    -- reset_words: the device control word is not kept; the place is lost
+    row (resetWords reset) (4 ∷ 0x40 ∷ 7 ∷ 0 ∷ 1 ∷ 0x48 ∷ 9 ∷ 9 ∷ take 16 rising) (4 ∷ 7 ∷ 7 ∷ 0 ∷ 1 ∷ 0x48 ∷ 8 ∷ 9 ∷ take 16 rising) ∷
+    -- reset_from: the control words are read one word further; the dwords are
+    row (resetWords (resetOf (4 ∷ 0x40 ∷ 7 ∷ 0 ∷ 1 ∷ 0x48 ∷ 8 ∷ 9 ∷ take 16 rising))) (4 ∷ 0x40 ∷ 7 ∷ 0 ∷ 0 ∷ 0 ∷ 0 ∷ 0 ∷ take 16 rising)
+    (4 ∷ 0x40 ∷ 7 ∷ 0 ∷ 1 ∷ 0x48 ∷ 8 ∷ 9 ∷ (drop 1 (take 16 rising) ++ (0 ∷ []))) ∷
+    -- find_words: the first for the second candidate; the base is lost
+    row (findWords (find choosing)) (1 ∷ 0x50 ∷ 2 ∷ 0 ∷ 3 ∷ 4 ∷ 2 ∷ 0 ∷ 3 ∷ 4 ∷ 2 ∷ 5 ∷ take 6 rising) (1 ∷ 0 ∷ 2 ∷ 0 ∷ 3 ∷ 4 ∷ 1 ∷ 1 ∷ 0 ∷ 0 ∷ 2 ∷ 5 ∷ take 6 rising) ∷
+    -- find_words while dwords are read: a choice; one dword fewer is left
+    row (findWords (find (up.Reading 3))) (1 ∷ 3 ∷ (zeros 10 ++ take 6 rising)) (0 ∷ 2 ∷ (zeros 10 ++ take 6 rising)) ∷
+    -- find_from: base and length change places; the open question is the first
+    row (findWords (findOf (1 ∷ 0x50 ∷ 2 ∷ 0 ∷ 3 ∷ 4 ∷ 1 ∷ 1 ∷ 0 ∷ 0 ∷ 2 ∷ 5 ∷ take 6 rising))) (1 ∷ 0x50 ∷ 2 ∷ 0 ∷ 4 ∷ 3 ∷ 1 ∷ 1 ∷ 0 ∷ 0 ∷ 2 ∷ 5 ∷ take 6 rising)
+    (1 ∷ 0x50 ∷ 2 ∷ 0 ∷ 3 ∷ 4 ∷ 1 ∷ 1 ∷ 0 ∷ 0 ∷ 0 ∷ 0 ∷ take 6 rising) ∷
+    []
+
+-- WHAT WAS SAID
+abbrev info : Info
+info = record { uar = pickOf 2 0 0x2000 1; cap = capOf rising; func = funcOf 40 41 42; port1 = portOf (drop 3 rising); port2 = portOf rising; rev3 = true }
+
+abbrev pub infos : List Row
+infos =
+    -- told_words: the length is lost; the revision is
+    row (toldWords (record { uar = pickOf 2 0 0x2000 1; func = funcOf 40 41 42; rev3 = true })) (2 ∷ 0 ∷ 0 ∷ 1 ∷ 40 ∷ 41 ∷ 42 ∷ 1 ∷ []) (2 ∷ 0 ∷ 0x2000 ∷ 1 ∷ 40 ∷ 41 ∷ 42 ∷ 0 ∷ []) ∷
+    -- told_from: how it was chosen is lost; EQs change places
+    row (toldWords (toldOf (2 ∷ 0 ∷ 0x2000 ∷ 1 ∷ 40 ∷ 41 ∷ 42 ∷ 1 ∷ []))) (2 ∷ 0 ∷ 0x2000 ∷ 0 ∷ 40 ∷ 41 ∷ 42 ∷ 1 ∷ []) (2 ∷ 0 ∷ 0x2000 ∷ 1 ∷ 41 ∷ 40 ∷ 42 ∷ 1 ∷ []) ∷
+    -- told_of: QUERY_DEV_CAP's EQs for QUERY_FUNC's; the revision is lost
+    row (toldWords (toldFor info)) (2 ∷ 0 ∷ 0x2000 ∷ 1 ∷ 4 ∷ 5 ∷ 8 ∷ 1 ∷ []) (2 ∷ 0 ∷ 0x2000 ∷ 1 ∷ 40 ∷ 41 ∷ 42 ∷ 0 ∷ []) ∷
+    -- cap_words and cap_from, the first 17: the flags are read from the next word; a word is lost
+    row (take 17 (capWords (capOf rising))) (take 14 rising ++ (16 ∷ 16 ∷ 17 ∷ [])) (take 13 rising ++ (15 ∷ 16 ∷ 17 ∷ 18 ∷ [])) ∷
+    -- and the rest, with one of the two bits set: the bits change places; the sizes are read one word early
+    row (drop 17 (capWords (capOf (take 17 rising ++ (1 ∷ 0 ∷ drop 19 rising))))) (0 ∷ 1 ∷ drop 19 rising) (1 ∷ 0 ∷ 20 ∷ 21 ∷ 21 ∷ drop 21 (take 31 rising)) ∷
+    -- port_words and port_from: the speed is kept as the types; the bytes of the MAC in the other order
+    row (portWords (portOf (1 ∷ 1 ∷ 3 ∷ 4 ∷ 5 ∷ 0 ∷ 1 ∷ drop 7 (take 17 rising)))) (1 ∷ 1 ∷ 3 ∷ 4 ∷ 5 ∷ 0 ∷ 1 ∷ 3 ∷ drop 8 (take 17 rising)) (1 ∷ 1 ∷ 3 ∷ 4 ∷ 5 ∷ 0 ∷ 1 ∷ 8 ∷ 9 ∷ 10 ∷ 11 ∷ 17 ∷ 16 ∷ 15 ∷ 14 ∷ 13 ∷ 12 ∷ []) ∷
+    []
+
+-- HOW FAR A SESSION HAS COME
+abbrev buffer : Buffer
+buffer = record { handle = 7; dev = 0x5000; pages = 2 }
+
+-- the first three words of a stage
+abbrev stage : Stage → List ℕ
+stage x = take 3 (stageWords x)
+
+abbrev stageRead : List ℕ → List ℕ
+stageRead w = stageWords (stageOf w)
+
+abbrev pub stages : List Row
+stages =
+    -- stage_words, the numbers: fresh and ended change places; a close for a client's call
+    row (stage st.Fresh ++ (stage (st.Open ga.Nothing) ++ (stage st.Ended ++ (stage (st.Close cl.CloseHca) ++ stage (st.Client ci.Lend)))))
+    (2 ∷ 0 ∷ 0 ∷ 1 ∷ 0 ∷ 0 ∷ 0 ∷ 0 ∷ 0 ∷ 5 ∷ 1 ∷ 0 ∷ 6 ∷ 1 ∷ 0 ∷ []) (0 ∷ 0 ∷ 0 ∷ 1 ∷ 0 ∷ 0 ∷ 2 ∷ 0 ∷ 0 ∷ 5 ∷ 1 ∷ 0 ∷ 5 ∷ 1 ∷ 0 ∷ []) ∷
+    -- of an undo down to a mark: the mark is not kept; mark and count change places
+    row (take 4 (stageWords (st.Client (ci.UndoTo 5 6)))) (6 ∷ 2 ∷ 6 ∷ 6 ∷ []) (6 ∷ 2 ∷ 6 ∷ 5 ∷ []) ∷
+    -- of a range that is mapped: the host address of what is left to cut is not kept; the card address is lost
+    row (stageWords (st.Boot (bo.Map (ar.Range 3) (record { virt = lv.At 9; phys = 10; left = 11 })))) (4 ∷ 2 ∷ 2 ∷ 3 ∷ 0 ∷ 9 ∷ 11 ∷ 11 ∷ []) (4 ∷ 2 ∷ 2 ∷ 3 ∷ 1 ∷ 0 ∷ 10 ∷ 11 ∷ []) ∷
+    -- of the inbox given back: the fault is lost; the outbox
+    row (stage (st.Prepare (pr.GiveInbox f.Address))) (3 ∷ 6 ∷ 0 ∷ []) (3 ∷ 5 ∷ 1 ∷ []) ∷
+    -- of QUERY_PORT, and of INIT_HCA: the port is lost; RUN_FW for INIT_HCA
+    row (stage (st.Boot (bo.Port 2)) ++ stage (st.Boot bo.InitHca)) (4 ∷ 6 ∷ 0 ∷ 4 ∷ 8 ∷ 0 ∷ []) (4 ∷ 6 ∷ 2 ∷ 4 ∷ 3 ∷ 0 ∷ []) ∷
+    -- of a lent buffer, a range, the release and the quiesce: which one is lost; a range for a lent buffer
+    row (stage (st.Close (cl.FreeLent 5)) ++ (stage (st.Close (cl.FreeIcm 6)) ++ (stage (st.Close cl.Release) ++ stage (st.Close cl.Quiesce))))
+    (5 ∷ 6 ∷ 0 ∷ 5 ∷ 7 ∷ 0 ∷ 5 ∷ 12 ∷ 0 ∷ 5 ∷ 14 ∷ 0 ∷ []) (5 ∷ 7 ∷ 5 ∷ 5 ∷ 7 ∷ 6 ∷ 5 ∷ 12 ∷ 0 ∷ 5 ∷ 14 ∷ 0 ∷ []) ∷
+    -- of the forms of a command: with input and with output change places; the last is the first
+    row (stage (st.Client (ci.Command fo.WithIn)) ++ (stage (st.Client (ci.Command fo.WithOut)) ++ stage (st.Client (ci.Command fo.InOut))))
+    (6 ∷ 0 ∷ 2 ∷ 6 ∷ 0 ∷ 1 ∷ 6 ∷ 0 ∷ 4 ∷ []) (6 ∷ 0 ∷ 1 ∷ 6 ∷ 0 ∷ 2 ∷ 6 ∷ 0 ∷ 0 ∷ []) ∷
+    -- stage_from of an ended session: a fresh one; an open one
+    row (stageRead (2 ∷ zeros 7)) (zeros 8) (1 ∷ zeros 7) ∷
+    -- of why a call failed: read as a buffer that it lent; the number is lost
+    row (stageRead (1 ∷ 3 ∷ 5 ∷ 2 ∷ 50 ∷ zeros 3)) (1 ∷ 2 ∷ 5 ∷ 2 ∷ 50 ∷ zeros 3) (1 ∷ 3 ∷ 0 ∷ 0 ∷ 0 ∷ zeros 3) ∷
+    -- of a command's end: immediate and microseconds change places; nothing
+    row (stageRead (1 ∷ 1 ∷ 5 ∷ 9 ∷ zeros 4)) (1 ∷ 1 ∷ 9 ∷ 5 ∷ zeros 4) (1 ∷ zeros 7) ∷
+    -- of a range that is mapped: what is left for the host address; the auxiliary area
+    row (stageRead (4 ∷ 2 ∷ 2 ∷ 3 ∷ 0 ∷ 9 ∷ 10 ∷ 11 ∷ [])) (4 ∷ 2 ∷ 2 ∷ 3 ∷ 0 ∷ 9 ∷ 11 ∷ 11 ∷ []) (4 ∷ 2 ∷ 1 ∷ 0 ∷ 0 ∷ 9 ∷ 10 ∷ 11 ∷ []) ∷
+    -- of an undo down to a mark: mark and count change places; a command
+    row (stageRead (6 ∷ 2 ∷ 5 ∷ 6 ∷ zeros 4)) (6 ∷ 2 ∷ 6 ∷ 5 ∷ zeros 4) (6 ∷ 0 ∷ 0 ∷ 0 ∷ zeros 4) ∷
+    []
+
+-- THE BOOKS
+abbrev ledger : Ledger
+ledger =
+    record {
+      ranges = 3;
+      lends = 4;
+      started = true;
+      original = 5;
+      wire = record { toggle = true; running = false; broken = true; silent = false; catas = ck.Known 2 0x100 };
+      held = record { inbox = o.Held buffer; outbox = o.Absent; fa = o.Absent; aux = o.Absent };
+      failure = fa.By (r.Status 2 50);
+      closing = co.Kept;
+    }
+
+-- its words behind the two counts, with the bits of broken and silent
+abbrev ledgerTail : (broken silent : ℕ) → List ℕ
+ledgerTail b s = 1 ∷ 5 ∷ 1 ∷ 0 ∷ b ∷ s ∷ 0 ∷ 2 ∷ 0x100 ∷ 1 ∷ 7 ∷ 0x5000 ∷ 2 ∷ (zeros 12 ++ (1 ∷ 5 ∷ 2 ∷ 50 ∷ 2 ∷ []))
+
+abbrev refusalRead : (tag a b : ℕ) → List ℕ
+refusalRead t x y = refusalWords (refusalOf t x y)
+
+abbrev pub books : List Row
+books =
+    -- refusal_words (Busy, the bus, a status): a busy card is kept as a failed bus; status and microseconds change places
+    row (refusalWords r.Busy ++ (refusalWords (r.Bus 3) ++ refusalWords (r.Status 2 50))) (8 ∷ 0 ∷ 0 ∷ 8 ∷ 3 ∷ 0 ∷ 5 ∷ 2 ∷ 50 ∷ []) (7 ∷ 0 ∷ 0 ∷ 8 ∷ 3 ∷ 0 ∷ 5 ∷ 50 ∷ 2 ∷ []) ∷
+    -- refusal_words (memory, address, full, opcode): document 01's numbers; memory and address change places
+    row (take 1 (refusalWords r.Memory) ++ (take 1 (refusalWords r.Address) ++ (take 1 (refusalWords r.Full) ++ take 1 (refusalWords r.Opcode)))) (5 ∷ 18 ∷ 19 ∷ 22 ∷ []) (17 ∷ 4 ∷ 18 ∷ 21 ∷ []) ∷
+    -- refusal_from (Timeout, Busy, the bus): a Timeout is read as a failed bus; its wait is lost
+    row (refusalRead 6 50 0 ++ (refusalRead 7 0 0 ++ refusalRead 8 3 0)) (8 ∷ 50 ∷ 0 ∷ 7 ∷ 0 ∷ 0 ∷ 8 ∷ 3 ∷ 0 ∷ []) (6 ∷ 0 ∷ 0 ∷ 7 ∷ 0 ∷ 0 ∷ 8 ∷ 3 ∷ 0 ∷ []) ∷
+    -- refusal_from (a status, one past the last): they change places; the last
+    row (refusalRead 5 2 50 ++ refusalRead 23 0 0) (5 ∷ 50 ∷ 2 ∷ 0 ∷ 0 ∷ 0 ∷ []) (5 ∷ 2 ∷ 50 ∷ 22 ∷ 0 ∷ 0 ∷ []) ∷
+    -- buffer_words: the pages for the device address; the handle for it
+    row (bufferWords buffer) (7 ∷ 2 ∷ 2 ∷ []) (7 ∷ 7 ∷ 2 ∷ []) ∷
+    -- buffer_from: the handle as the device address; pages and address change places
+    row (bufferWords (bufferOf 7 0x5000 2)) (7 ∷ 7 ∷ 2 ∷ []) (7 ∷ 2 ∷ 0x5000 ∷ []) ∷
+    -- ledger_words: the count of ranges is kept twice; broken is kept as silent
+    row (ledgerWords ledger) (3 ∷ 3 ∷ ledgerTail 1 0) (3 ∷ 4 ∷ ledgerTail 0 0) ∷
+    -- ledger_from: the counts change places; broken and silent do
+    row (ledgerWords (ledgerOf (3 ∷ 4 ∷ ledgerTail 1 0))) (4 ∷ 3 ∷ ledgerTail 1 0) (3 ∷ 4 ∷ ledgerTail 0 1) ∷
+    []
+
+-- WHAT CROSSES C LINKAGE
+abbrev toldAnswer : Answer → List ℕ
+toldAnswer (a.Word x) = 1 ∷ x ∷ []
+toldAnswer (a.Dword x) = 2 ∷ x ∷ []
+toldAnswer (a.Qword x) = 3 ∷ x ∷ []
+toldAnswer a.Done = 4 ∷ []
+toldAnswer a.Failed = 5 ∷ []
+toldAnswer (a.Handle x) = 6 ∷ x ∷ []
+toldAnswer (a.Mapped x y) = 7 ∷ x ∷ y ∷ []
+toldAnswer a.List = 8 ∷ []
+
+abbrev heard : Outcome Answer → List ℕ
+heard (value x) = 0 ∷ toldAnswer x
+heard (refused n vs) = n ∷ vs
+
+abbrev pub calls : List Row
+calls =
+    -- question_words (unmap, map): an unmap is told as a map; handle and bytes change places
+    row (questionWords (q.Unmap 7) ++ questionWords (q.Map 7 4096)) (11 ∷ 7 ∷ 0 ∷ 0 ∷ 11 ∷ 7 ∷ 4096 ∷ 0 ∷ []) (12 ∷ 7 ∷ 0 ∷ 0 ∷ 11 ∷ 4096 ∷ 7 ∷ 0 ∷ []) ∷
+    -- question_words (a register write and read): the value is lost; BAR and offset change places
+    row (questionWords (q.RegWrite 2 0x80698 5) ++ questionWords (q.RegRead 2 0x80698)) (6 ∷ 2 ∷ 0x80698 ∷ 0 ∷ 5 ∷ 2 ∷ 0x80698 ∷ 0 ∷ []) (6 ∷ 2 ∷ 0x80698 ∷ 5 ∷ 5 ∷ 0x80698 ∷ 2 ∷ 0 ∷ []) ∷
+    -- question_words (config): 16 and 32 bits change places; reads and writes do
+    row (questionWords (q.ConfigRead16 4) ++ (questionWords (q.ConfigRead32 4) ++ (questionWords (q.ConfigWrite16 4 5) ++ questionWords (q.ConfigWrite32 4 5))))
+    (2 ∷ 4 ∷ 0 ∷ 0 ∷ 1 ∷ 4 ∷ 0 ∷ 0 ∷ 4 ∷ 4 ∷ 5 ∷ 0 ∷ 3 ∷ 4 ∷ 5 ∷ 0 ∷ []) (3 ∷ 4 ∷ 0 ∷ 0 ∷ 4 ∷ 4 ∷ 0 ∷ 0 ∷ 1 ∷ 4 ∷ 5 ∷ 0 ∷ 2 ∷ 4 ∷ 5 ∷ 0 ∷ []) ∷
+    -- question_words (attributes, a resource list, a stall): operation and value change places; an allocation for a stall
+    row (questionWords (q.Attributes 2 0x600) ++ (questionWords (q.Resource 3) ++ questionWords (q.Stall 100))) (7 ∷ 0x600 ∷ 2 ∷ 0 ∷ 8 ∷ 3 ∷ 0 ∷ 0 ∷ 9 ∷ 100 ∷ 0 ∷ 0 ∷ []) (7 ∷ 2 ∷ 0x600 ∷ 0 ∷ 8 ∷ 3 ∷ 0 ∷ 0 ∷ 10 ∷ 100 ∷ 0 ∷ 0 ∷ []) ∷
+    -- question_words (allocate, free, fence, finished): the pages are lost; a fence is told as finished
+    row (questionWords (q.Allocate 2) ++ (questionWords (q.Free 7 2) ++ (questionWords q.Fence ++ questionWords q.Finished)))
+    (10 ∷ 2 ∷ 0 ∷ 0 ∷ 13 ∷ 7 ∷ 0 ∷ 0 ∷ 14 ∷ 0 ∷ 0 ∷ 0 ∷ 0 ∷ 0 ∷ 0 ∷ 0 ∷ []) (10 ∷ 2 ∷ 0 ∷ 0 ∷ 13 ∷ 7 ∷ 2 ∷ 0 ∷ 0 ∷ 0 ∷ 0 ∷ 0 ∷ 0 ∷ 0 ∷ 0 ∷ 0 ∷ []) ∷
+    -- put_turn: the count of undo records is not told; it is told for the last value
+    row (wordsIn (turnIn (zeros 40) (q.RegWrite 2 0x698 5) 9) 0 5) (6 ∷ 2 ∷ 0x698 ∷ 5 ∷ 0 ∷ []) (6 ∷ 2 ∷ 0x698 ∷ 9 ∷ 0 ∷ []) ∷
+    -- put_turn into 32 bytes: the question alone; its kind alone
+    row (turnIn (zeros 32) (q.Stall 5) 9) (zeros 7 ++ (9 ∷ (zeros 7 ++ (5 ∷ zeros 16)))) (zeros 7 ++ (9 ∷ zeros 24)) ∷
+    -- answer_from of an unknown kind: failed; done
+    row (heard (heardOf 9 1 2) ++ heard (heardOf 0 1 2)) (0 ∷ 5 ∷ 0 ∷ 5 ∷ []) (0 ∷ 4 ∷ 0 ∷ 4 ∷ []) ∷
+    -- answer_from of a word (16 bits, 17 bits): a value of 17 bits is taken; cut to 16
+    row (heard (heardOf 1 65535 0) ++ heard (heardOf 1 65536 0)) (0 ∷ 1 ∷ 65535 ∷ 0 ∷ 1 ∷ 65536 ∷ []) (0 ∷ 1 ∷ 65535 ∷ 0 ∷ 1 ∷ 0 ∷ []) ∷
+    -- answer_from of a dword (32 bits, 33 bits): a value of 33 bits is taken; cut to 32
+    row (heard (heardOf 2 4294967295 0) ++ heard (heardOf 2 4294967296 0)) (0 ∷ 2 ∷ 4294967295 ∷ 0 ∷ 2 ∷ 4294967296 ∷ []) (0 ∷ 2 ∷ 4294967295 ∷ 0 ∷ 2 ∷ 0 ∷ []) ∷
+    -- answer_from (done, failed, a handle, a mapping, a list): done and failed change places; address and bytes do
+    row (heard (heardOf 4 0 0) ++ (heard (heardOf 5 0 0) ++ (heard (heardOf 6 7 0) ++ (heard (heardOf 7 0x5000 4096) ++ heard (heardOf 8 0 0)))))
+    (0 ∷ 5 ∷ 0 ∷ 4 ∷ 0 ∷ 6 ∷ 7 ∷ 0 ∷ 7 ∷ 0x5000 ∷ 4096 ∷ 0 ∷ 8 ∷ []) (0 ∷ 4 ∷ 0 ∷ 5 ∷ 0 ∷ 6 ∷ 7 ∷ 0 ∷ 7 ∷ 4096 ∷ 0x5000 ∷ 0 ∷ 8 ∷ []) ∷
+    []
+
+-- A COMMAND THAT IS POLLED
+abbrev toldOnward : Onward → List ℕ
+toldOnward po.Other = 0 ∷ []
+toldOnward (po.Stall n) = 1 ∷ n ∷ []
+toldOnward (po.Read n) = 2 ∷ n ∷ []
+
+abbrev toldPoll : Poll → List ℕ
+toldPoll pl.Other = 0 ∷ []
+toldPoll (pl.Read t n) = 1 ∷ bitOf t ∷ n ∷ []
+toldPoll (pl.Wait n) = 2 ∷ n ∷ []
+
+-- the first ten words of a command with toggle 1
+abbrev tenWords : (phase stalls : ℕ) → List ℕ
+tenWords p n = 8 ∷ p ∷ 0 ∷ 0x43 ∷ 1 ∷ 2 ∷ 5 ∷ 6 ∷ 1 ∷ n ∷ []
+
+abbrev polls : ℕ → ℕ → Answer → List ℕ
+polls p n x = toldOnward (pollOn (pollOf (tenWords p n)) x)
+
+-- leads at a pending status, after three stalls, with an outbox of so many bytes
+abbrev leadsWith : ℕ → List ℕ
+leadsWith n = toldOnward (onwardOf (putWords (zeros 80) 0 (tenWords 4 3) ++ zeros 3256) (a.Dword 0x2000) (zeros 4096) (zeros n) 0 (zeros 40))
+
+abbrev pub polling : List Row
+polling =
+    -- leads, the command: the toggle is read from the word of the stalls; a stall is under way
+    row (toldPoll (pollOf (tenWords 4 3))) (1 ∷ 0 ∷ 3 ∷ []) (2 ∷ 3 ∷ []) ∷
+    -- leads, a stall that is under way: the status is read; none
+    row (toldPoll (pollOf (tenWords 5 3))) (1 ∷ 1 ∷ 3 ∷ []) (0 ∷ []) ∷
+    -- leads, another phase, another task, and stalls of 33 bits: a phase as good as another; stalls cut to 32 bits
+    row (toldPoll (pollOf (tenWords 6 3)) ++ (toldPoll (pollOf (5 ∷ 4 ∷ zeros 8)) ++ toldPoll (pollOf (tenWords 5 4294967296)))) (1 ∷ 1 ∷ 3 ∷ 0 ∷ 0 ∷ []) (0 ∷ 0 ∷ 2 ∷ 0 ∷ []) ∷
+    -- leads, pending: the toggle is read from the word of the stalls; the stall is counted before it is made
+    row (polls 4 3 (a.Dword 0x2000)) (0 ∷ []) (1 ∷ 4 ∷ []) ∷
+    -- leads, not pending, and failed: a stall more at an end; at a failed read
+    row (polls 4 3 (a.Dword 0) ++ polls 4 3 a.Failed) (1 ∷ 3 ∷ 0 ∷ []) (0 ∷ 1 ∷ 3 ∷ []) ∷
+    -- leads, a stall was made: it is not counted; the poll does not go on
+    row (polls 5 3 a.Done) (2 ∷ 3 ∷ []) (0 ∷ []) ∷
+    -- leads, the last stalls (600,989 and 600,990 made): one more; one fewer
+    row (polls 5 600989 a.Done ++ polls 5 600990 a.Done) (2 ∷ 600990 ∷ 2 ∷ 600991 ∷ []) (0 ∷ 0 ∷ []) ∷
+    -- leads, a stall that failed, which it cannot: it was made; read without it
+    row (polls 5 3 a.Failed) (2 ∷ 4 ∷ []) (2 ∷ 3 ∷ []) ∷
+    -- leads, where less is lent than is asked for: the poll goes on; another question
+    row (toldOnward (onwardOf [] (a.Dword 0x2000) [] [] 0 [])) (1 ∷ 0 ∷ []) (2 ∷ 0 ∷ []) ∷
+    -- leads with mailboxes of 4,096 bytes, and with an outbox of 4,097: the poll goes on whatever the outbox's length; with 4,097 alone
+    row (leadsWith 4096 ++ leadsWith 4097) (1 ∷ 3 ∷ 1 ∷ 3 ∷ []) (0 ∷ 1 ∷ 3 ∷ []) ∷
+    -- stall_next, the state: a stall is kept as a read; one word further
+    row (stallIn (zeros 24)) (zeros 15 ++ (4 ∷ zeros 8)) (zeros 23 ++ (5 ∷ [])) ∷
+    -- read_next, the state (words 1, 8 and 9): the stalls are written over the toggle; the phase is left as it was
+    row (wordsIn (readIn (putWords (zeros 80) 0 (tenWords 5 3)) 4) 1 1 ++ wordsIn (readIn (putWords (zeros 80) 0 (tenWords 5 3)) 4) 8 2) (4 ∷ 4 ∷ 3 ∷ []) (5 ∷ 1 ∷ 4 ∷ []) ∷
+    -- stall_next, the question after 1,000 stalls: a short one; the count of undo records is not told
+    row (wordsIn (turnIn (zeros 40) (q.Stall (stallOf 1000)) 9) 0 5) (9 ∷ 1 ∷ 0 ∷ 0 ∷ 9 ∷ []) (9 ∷ 100 ∷ 0 ∷ 0 ∷ 0 ∷ []) ∷
+    -- read_next, the question: the owner; a stall
+    row (wordsIn (turnIn (zeros 40) (q.RegRead 0 0x80698) 9) 0 5) (5 ∷ 0 ∷ 0x8069c ∷ 0 ∷ 9 ∷ []) (9 ∷ 1 ∷ 0 ∷ 0 ∷ 9 ∷ []) ∷
+    []
+
+-- SESSIONS
+abbrev pub sessions : List Row
+sessions =
+    -- decode of too few bytes: 20; a session
+    row (numberOf (decodeOf (zeros 8)) ∷ []) (20 ∷ []) (0 ∷ []) ∷
+    -- decode of a session, 3,336 zeros: every session is refused; too few bytes
+    row (numberOf (decodeOf (zeros 3336)) ∷ []) (20 ∷ []) (21 ∷ []) ∷
+    -- encode into too few bytes: done; 20
+    row (numberOf (wroteOf (zeros 8)) ∷ []) (0 ∷ []) (20 ∷ []) ∷
+    -- encode into too few bytes, the bytes then: the task; its last byte alone
+    row (encodedIn (9 ∷ zeros 7) (starts fresh st.Fresh wt.Look)) (zeros 7 ++ (7 ∷ [])) (9 ∷ (zeros 6 ++ (7 ∷ []))) ∷
+    -- encode, words 0 and 1 then: the session stands from word 1 on; the task is lost
+    row (wordsIn (putSession (zeros 16) (starts fresh st.Fresh wt.Look)) 0 2) (0 ∷ 7 ∷ []) (0 ∷ 0 ∷ []) ∷
+    []
+
+-- RESULTS
+abbrev pub results : List Row
+results =
+    -- outcome_words (a failed opening, a close): a failed opening is told as closed; the refusal's number is lost
+    row (outcomeWords (u.Failed r.Memory co.Reset) ++ outcomeWords (u.Closed co.Reset)) (4 ∷ 5 ∷ 0 ∷ 0 ∷ 1 ∷ 4 ∷ 0 ∷ 0 ∷ 0 ∷ 1 ∷ []) (3 ∷ 0 ∷ 0 ∷ 0 ∷ 1 ∷ 4 ∷ 0 ∷ 0 ∷ 0 ∷ 1 ∷ []) ∷
+    -- outcome_words of a closing (clean, reset, kept): one that kept everything is told as a reset; as clean
+    row (outcomeWords (u.Closed co.Clean) ++ (outcomeWords (u.Closed co.Reset) ++ outcomeWords (u.Closed co.Kept)))
+    (4 ∷ 0 ∷ 0 ∷ 0 ∷ 0 ∷ 4 ∷ 0 ∷ 0 ∷ 0 ∷ 1 ∷ 4 ∷ 0 ∷ 0 ∷ 0 ∷ 1 ∷ []) (4 ∷ 0 ∷ 0 ∷ 0 ∷ 0 ∷ 4 ∷ 0 ∷ 0 ∷ 0 ∷ 1 ∷ 4 ∷ 0 ∷ 0 ∷ 0 ∷ 0 ∷ []) ∷
+    -- outcome_words of a status: status and microseconds change places; as a failed opening
+    row (outcomeWords (u.Opened (ga.Failed (r.Status 2 50)))) (7 ∷ 6 ∷ 50 ∷ 2 ∷ 0 ∷ []) (3 ∷ 6 ∷ 2 ∷ 50 ∷ 0 ∷ []) ∷
+    -- outcome_words of a command, and of a buffer: immediate and microseconds change places; handle and address do
+    row (outcomeWords (u.Opened (ga.Command 5 9)) ++ outcomeWords (u.Opened (ga.Lent buffer))) (5 ∷ 9 ∷ 5 ∷ 0 ∷ 0 ∷ 6 ∷ 7 ∷ 0x5000 ∷ 2 ∷ 0 ∷ []) (5 ∷ 5 ∷ 9 ∷ 0 ∷ 0 ∷ 6 ∷ 0x5000 ∷ 7 ∷ 2 ∷ 0 ∷ []) ∷
+    -- outcome_words (not opened yet, running, open): not opened is told as running; open as running
+    row (outcomeWords u.Fresh ++ (outcomeWords u.Running ++ outcomeWords (u.Opened ga.Nothing))) (1 ∷ 0 ∷ 0 ∷ 0 ∷ 0 ∷ 1 ∷ 0 ∷ 0 ∷ 0 ∷ 0 ∷ 2 ∷ 0 ∷ 0 ∷ 0 ∷ 0 ∷ []) (0 ∷ 0 ∷ 0 ∷ 0 ∷ 0 ∷ 1 ∷ 0 ∷ 0 ∷ 0 ∷ 0 ∷ 1 ∷ 0 ∷ 0 ∷ 0 ∷ 0 ∷ []) ∷
+    -- put_setup, what QUERY_FUNC replaces (words 3 to 7 of the capabilities): EQs as QUERY_DEV_CAP gave them; reserved UARs as it gave them
+    row (take 5 (drop 3 (capWords (merged (info .cap) (info .func))))) (40 ∷ 5 ∷ 6 ∷ 7 ∷ 42 ∷ []) (40 ∷ 41 ∷ 6 ∷ 7 ∷ 8 ∷ []) ∷
+    -- put_setup, where the capabilities begin (words 7 to 9): one word early; one word late
+    row (wordsIn (putSaid (zeros 80) info) 7 3) (1 ∷ 2 ∷ 3 ∷ []) (1 ∷ 0 ∷ 1 ∷ []) ∷
+    -- put_setup, the ports that were asked about: none at revision 3; two whatever the card has
+    row (portsOf info ∷ []) (0 ∷ []) (2 ∷ []) ∷
+    -- put_setup into too few bytes: what fits; zeros
+    row (setupIn (9 ∷ zeros 7) info) (zeros 7 ++ (2 ∷ [])) (zeros 8) ∷
+    []
+
+abbrev pub wrong : List Row
+wrong = words ++ tasks ++ besides ++ infos ++ stages ++ books ++ calls ++ polling ++ sessions ++ results
+
+-- leads after so many stalls that the wait is not computed: hcr's laws give it
+abbrev pub late : List Row
+late =
+    -- after 600,990 stalls, pending: the poll goes on after 60,000,000 µs; the status is read again
+    row (polls 4 600990 (a.Dword 0x2000)) (1 ∷ 600990 ∷ []) (2 ∷ 600990 ∷ []) ∷
+    -- after 600,989 stalls, pending: a Timeout one stall early; the stall is counted before it is made
+    row (polls 4 600989 (a.Dword 0x2000)) (0 ∷ []) (1 ∷ 600990 ∷ []) ∷
+    []
