@@ -4,9 +4,9 @@ use std::cell::RefCell;
 use std::hint::black_box;
 use std::rc::Rc;
 
-use compare::sessions::over::Over;
 use oracle::run::{self, Driver};
 use session::{Closing, Outcome, Session, UndoList};
+use station::over::Over;
 use world::plan::{put_be16, put_be64, Behaviour, OddMap, Plan, Which};
 use world::registers::{MAP_FA, MAP_ICM, MAP_ICM_AUX, QUERY_FW};
 use world::trace::{Event, Trace};

@@ -16,51 +16,27 @@ const fn leaf(
     Leaf { name, input, rust, proved }
 }
 
-pub const LEAVES: &[Leaf] = &[
-    leaf(
-        "field",
-        any_field,
-        |i| Some(any_read(i)),
-        |i| Answer::words(&ffi::field(&i.bytes, i.words[0] != 0, i.words[1] as usize, i.words[2] as usize)),
-    ),
-    leaf("byte", place, |i| mem_read(i, 1), |i| proved_read(i, Width::Byte)),
-    leaf("be16", place, |i| mem_read(i, 2), |i| proved_read(i, Width::Be16)),
-    leaf("be32", place, |i| mem_read(i, 4), |i| proved_read(i, Width::Be32)),
-    leaf("be64", place, |i| mem_read(i, 8), |i| proved_read(i, Width::Be64)),
-    leaf("le16", place, |i| little_read(i, 2), |i| proved_read(i, Width::Le16)),
-    leaf("le64", place, |i| little_read(i, 8), |i| proved_read(i, Width::Le64)),
-    leaf(
-        "set_field",
-        any_field,
-        |i| Some(any_write(i)),
-        |i| {
-            let mut s = i.bytes.clone();
-            let (off, width) = (i.words[1] as usize, i.words[2] as usize);
-            let number = ffi::set_field(&mut s, i.words[0] != 0, off, width, i.words[3]);
-            Answer { words: vec![number.into()], bytes: s }
-        },
-    ),
-    leaf("set_byte", place, |i| mem_write(i, 1), |i| proved_write(i, Width::Byte)),
-    leaf("set_be16", place, |i| mem_write(i, 2), |i| proved_write(i, Width::Be16)),
-    leaf("set_be32", place, |i| mem_write(i, 4), |i| proved_write(i, Width::Be32)),
-    leaf("set_be64", place, |i| mem_write(i, 8), |i| proved_write(i, Width::Be64)),
-    leaf("set_le16", place, |i| little_write(i, 2), |i| proved_write(i, Width::Le16)),
-    leaf("set_le64", place, |i| little_write(i, 8), |i| proved_write(i, Width::Le64)),
-    leaf(
-        "zero",
-        place,
-        |i| {
-            let mut s = i.bytes.clone();
-            parts::zero(&mut s);
-            Some(Answer { words: Vec::new(), bytes: s })
-        },
-        |i| {
-            let mut s = i.bytes.clone();
-            ffi::zero(&mut s);
-            Answer { words: Vec::new(), bytes: s }
-        },
-    ),
-];
+/// The reads, then the writes: a field of any width, and those of one width, each with what it is compared with.
+macro_rules! reads_and_writes {
+    ($(($name:literal, $set:literal, $width:ident, $read:ident, $write:ident, $bytes:literal))*) => {
+        &[
+            leaf("field", any_field, |i| Some(any_read(i)), proved_any_read),
+            $(leaf($name, place, |i| $read(i, $bytes), |i| proved_read(i, Width::$width)),)*
+            leaf("set_field", any_field, |i| Some(any_write(i)), proved_any_write),
+            $(leaf($set, place, |i| $write(i, $bytes), |i| proved_write(i, Width::$width)),)*
+            leaf("zero", place, |i| Some(zeroed(i, parts::zero)), |i| zeroed(i, ffi::zero)),
+        ]
+    };
+}
+
+pub const LEAVES: &[Leaf] = reads_and_writes! {
+    ("byte", "set_byte", Byte, mem_read, mem_write, 1)
+    ("be16", "set_be16", Be16, mem_read, mem_write, 2)
+    ("be32", "set_be32", Be32, mem_read, mem_write, 4)
+    ("be64", "set_be64", Be64, mem_read, mem_write, 8)
+    ("le16", "set_le16", Le16, little_read, little_write, 2)
+    ("le64", "set_le64", Le64, little_read, little_write, 8)
+};
 
 /// A slice of 0 to 40 bytes.
 fn slice(r: &mut Prng) -> Vec<u8> {
@@ -133,6 +109,10 @@ fn any_read(i: &Input) -> Answer {
     Answer::words(&[0, little(&field)])
 }
 
+fn proved_any_read(i: &Input) -> Answer {
+    Answer::words(&ffi::field(&i.bytes, i.words[0] != 0, i.words[1] as usize, i.words[2] as usize))
+}
+
 fn mem_write(i: &Input, width: usize) -> Option<Answer> {
     let mut s = i.bytes.clone();
     let number = match within(&i.bytes, i.words[0], width as u64) {
@@ -175,4 +155,17 @@ fn any_write(i: &Input) -> Answer {
         None => ffi::SHORT,
     };
     Answer { words: vec![number.into()], bytes: s }
+}
+
+fn proved_any_write(i: &Input) -> Answer {
+    let mut s = i.bytes.clone();
+    let number = ffi::set_field(&mut s, i.words[0] != 0, i.words[1] as usize, i.words[2] as usize, i.words[3]);
+    Answer { words: vec![number.into()], bytes: s }
+}
+
+/// The slice once `zero` has had it.
+fn zeroed(i: &Input, zero: impl FnOnce(&mut [u8])) -> Answer {
+    let mut s = i.bytes.clone();
+    zero(&mut s);
+    Answer { words: Vec::new(), bytes: s }
 }

@@ -50,7 +50,7 @@ pub fn run(leaf: &Leaf, seed: u64, count: u64) -> Result<u64, Box<Difference>> {
 }
 
 /// Compares one case; nothing outside the domain.
-pub fn differs(leaf: &Leaf, input: &Input) -> Option<bool> {
+fn differs(leaf: &Leaf, input: &Input) -> Option<bool> {
     (leaf.rust)(input).map(|rust| rust != (leaf.proved)(input))
 }
 

@@ -27,41 +27,8 @@ mod null {
     use std::ptr::{null, null_mut};
 
     use session::abi::{OPEN, SHORT, STATE, WRONG};
+    use session::ffi::c::{hca_books, hca_call, hca_fresh, hca_push_undo};
     use session::{ffi, Undo};
-
-    extern "sysv64" {
-        fn hca_fresh(state: *mut u8, state_bytes: usize) -> u32;
-        fn hca_call(
-            state: *mut u8,
-            state_bytes: usize,
-            kind: u32,
-            op: u16,
-            op_mod: u8,
-            in_mod: u32,
-            value: u64,
-            input: *const u8,
-            input_bytes: usize,
-            inbox: *mut u8,
-            inbox_bytes: usize,
-            outbox: *mut u8,
-            outbox_bytes: usize,
-            undo: *const Undo,
-            undo_records: usize,
-            count: usize,
-            out: *mut u8,
-            out_bytes: usize,
-        ) -> u32;
-        fn hca_push_undo(
-            undo: *mut Undo,
-            undo_records: usize,
-            count: usize,
-            op: u16,
-            op_mod: u8,
-            in_mod: u32,
-            in_param: u64,
-        ) -> u32;
-        fn hca_books(state: *const u8, state_bytes: usize, out: *mut u8, out_bytes: usize) -> u32;
-    }
 
     /// A pointer may be null where its length is 0.
     #[test]

@@ -5,7 +5,7 @@ mod lent;
 
 use compare::calls::cases;
 use compare::sessions::over::Over;
-use lent::{refused, short, Copies};
+use lent::{changing, refused, short, Copies};
 use session::abi::{self, UNDO_RECORDS};
 use session::ffi::{self, Called};
 use session::{Call, Closing, Command, Outcome, Question, Refusal, Refused, Session, Undo, UndoList};
@@ -164,7 +164,7 @@ fn reserved_records() {
                 }
             }
         }
-        session.quiesce(&mut Over::new(&mut bus), &mut UndoList::new(&mut [])).expect("an open session");
+        session.call(Call::Quiesce, &mut Over::new(&mut bus), &mut UndoList::new(&mut [])).expect("an open session");
     }
 }
 
@@ -176,11 +176,11 @@ fn nothing_to_undo() {
     for broken in [false, true] {
         let mut undo = UndoList::holding(&mut list, 2);
         for mark in [2, 3, 256, 257, usize::MAX] {
-            assert_eq!(session.begin_undo_to(&mut undo, mark), Ok(Question::Finished), "{broken}");
+            assert_eq!(session.begin(Call::UndoTo { mark }, &mut undo), Ok(Question::Finished), "{broken}");
             assert_eq!((session.result(), undo.len()), (Ok(Outcome::Open), 2));
         }
         let over = &mut Over::new(&mut bus);
-        session.quiesce(over, &mut UndoList::new(&mut [])).expect("an open session");
+        session.call(Call::Quiesce, over, &mut UndoList::new(&mut [])).expect("an open session");
     }
 }
 
@@ -193,16 +193,16 @@ fn lendings_that_are_refused() {
         refused(&Copies::of(&session), abi::BYTES, "too many bytes", |l| ffi::call(l, lend(bytes)));
     }
     let mut undo = UndoList::new(&mut []);
-    assert_eq!(session.begin_lend(&mut undo, MOST), Ok(Question::Allocate { pages: (1 << 52) - 1 }));
+    assert_eq!(session.begin(Call::Lend { bytes: MOST }, &mut undo), Ok(Question::Allocate { pages: (1 << 52) - 1 }));
     let over = &mut Over::new(&mut bus);
     assert_eq!(session.finish(over, &mut undo), Ok(Outcome::CallFailed(Refusal::Memory)));
     for _ in 0..abi::LENT_BUFFERS {
-        assert!(matches!(session.lend(over, &mut undo, 1), Ok(Outcome::Lent(_))));
+        assert!(matches!(session.call(Call::Lend { bytes: 1 }, over, &mut undo), Ok(Outcome::Lent(_))));
     }
     for bytes in [0, 1, MOST, MOST + 1, u64::MAX] {
         refused(&Copies::of(&session), abi::FULL, "a full list", |l| ffi::call(l, lend(bytes)));
     }
-    assert_eq!(session.lend(over, &mut undo, 1), Err(Refused::Full));
+    assert_eq!(session.call(Call::Lend { bytes: 1 }, over, &mut undo), Err(Refused::Full));
     assert_eq!(session.books().expect("a session").lent().len(), abi::LENT_BUFFERS);
     assert_eq!(session.close(over, &mut undo), Ok(Outcome::Closed(Closing::Clean)));
     assert!(bus.bus.in_use().is_empty() && bus.bus.misuse().is_empty());
@@ -217,7 +217,8 @@ fn a_lent_buffer_at_a_bad_address() {
         let odd_maps = vec![(0, OddMap { address: Some(address), bytes: None })];
         bus.bus.schedule(Later { odd_maps, ..Later::default() });
         let (mut undo, before) = (UndoList::new(&mut []), session.books());
-        let outcome = session.lend(&mut Over::new(&mut bus), &mut undo, pages * PAGE).expect("an open session");
+        let lend = Call::Lend { bytes: pages * PAGE };
+        let outcome = session.call(lend, &mut Over::new(&mut bus), &mut undo).expect("an open session");
         if number == 0 {
             assert!(matches!(outcome, Outcome::Lent(b) if (b.address, b.pages) == (address, pages)), "{outcome:?}");
             continue;
@@ -267,16 +268,7 @@ fn changed(call: Call, ops: &[u16], op: u16, change: &dyn Fn(&mut UndoList)) -> 
     let mut room = records(ops);
     room.resize(UNDO_RECORDS, Undo::default());
     let mut undo = UndoList::holding(&mut room, ops.len());
-    let mut q = session.begin(call, &mut undo).expect("an open session");
-    let (mut list, mut once) = ([0; 64], false);
-    while q != Question::Finished {
-        let answer = session.ask(&mut Over::new(&mut bus), &mut list);
-        if !once && bus.trace.posts().any(|p| p.op == op) {
-            once = true;
-            change(&mut undo);
-        }
-        q = session.answer(answer, &mut undo).expect("an answer that suits");
-    }
+    changing(&mut session, call, &mut bus, &mut undo, op, change);
     let left = undo.records().iter().map(|u| u.op).collect();
     let sent = bus.take().posts().map(|p| p.op).take(4).collect();
     (sent, session.result().expect("a session"), left, session.books().expect("a session").broken)
@@ -342,7 +334,7 @@ fn a_record_is_off_before_it_is_sent() {
         assert_eq!(after.undo, copies.undo);
     }
     let mut undo = UndoList::holding(&mut list, 3);
-    session.begin_undo_to(&mut undo, 2).expect("an open session");
+    session.begin(Call::UndoTo { mark: 2 }, &mut undo).expect("an open session");
     assert_eq!((undo.len(), session.result()), (2, Ok(Outcome::Running)));
 }
 
@@ -352,28 +344,29 @@ fn results_of_calls() {
     let (mut session, mut bus) = opened();
     let setup = session.setup().expect("open");
     let mut undo = UndoList::new(&mut []);
-    let c = Command { op: FREE, op_mod: 0, in_mod: 7 };
+    let command = Command { op: FREE, op_mod: 0, in_mod: 7 };
     let commands = vec![(1, Behaviour { polls: 2, status: 9 })];
     bus.bus.schedule(Later { commands, ..Later::default() });
     let over = &mut Over::new(&mut bus);
-    let good = session.imm(over, &mut undo, c, 1).expect("an open session");
+    let (imm, with_in) = (Call::Imm { command, in_param: 1 }, Call::WithIn { command, input: &[1] });
+    let good = session.call(imm, over, &mut undo).expect("an open session");
     assert!(matches!(good, Outcome::Done { us: 0, .. }));
-    assert_eq!(
-        session.with_in(over, &mut undo, c, &[1]),
-        Ok(Outcome::CallFailed(Refusal::Status { status: 9, us: 2 }))
-    );
-    assert_eq!(session.with_in(over, &mut undo, c, &[1]), Ok(Outcome::Done { immediate: 0, us: 0 }));
-    assert_eq!(session.with_out(over, &mut undo, c), Ok(Outcome::Done { immediate: 0, us: 0 }));
-    assert_eq!(session.in_out(over, &mut undo, c, &[]), Ok(Outcome::Done { immediate: 0, us: 0 }));
-    assert!(matches!(session.in_imm(over, &mut undo, c, &[]), Ok(Outcome::Done { us: 0, .. })));
-    let lent = session.lend(over, &mut undo, 4097).expect("an open session");
+    let status = Outcome::CallFailed(Refusal::Status { status: 9, us: 2 });
+    assert_eq!(session.call(with_in, over, &mut undo), Ok(status));
+    let in_out = Call::InOut { command, input: &[] };
+    for call in [with_in, Call::WithOut { command }, in_out] {
+        assert_eq!(session.call(call, over, &mut undo), Ok(Outcome::Done { immediate: 0, us: 0 }), "{call:?}");
+    }
+    let in_imm = session.call(Call::InImm { command, input: &[] }, over, &mut undo);
+    assert!(matches!(in_imm, Ok(Outcome::Done { us: 0, .. })));
+    let lent = session.call(Call::Lend { bytes: 4097 }, over, &mut undo).expect("an open session");
     assert!(matches!(lent, Outcome::Lent(b) if b.pages == 2 && b.handle == 19));
     assert_eq!(session.result(), Ok(lent));
     assert_eq!(session.setup().as_ref(), Ok(&setup));
-    session.begin_imm(&mut undo, c, 0).expect("an open session");
+    session.begin(Call::Imm { command, in_param: 0 }, &mut undo).expect("an open session");
     assert_eq!((session.result(), session.setup()), (Ok(Outcome::Running), Err(Refused::Wrong)));
     assert!(matches!(session.finish(over, &mut undo), Ok(Outcome::Done { .. })));
-    assert_eq!(session.quiesce(over, &mut undo), Ok(Outcome::Open));
+    assert_eq!(session.call(Call::Quiesce, over, &mut undo), Ok(Outcome::Open));
     assert_eq!(session.setup().as_ref(), Ok(&setup));
     assert_eq!(session.close(over, &mut undo), Ok(Outcome::Closed(Closing::Reset)));
     assert_eq!(session.setup(), Err(Refused::Wrong));

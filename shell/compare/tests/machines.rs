@@ -88,7 +88,7 @@ fn every_end_is_reached() {
 /// A machine that is told something else than the Rust was is found, and so is one that asks something else.
 #[test]
 fn a_difference_is_found() {
-    for machine in 0..NAMES.len() {
+    for (machine, name) in NAMES.iter().enumerate() {
         let runs: Vec<_> = Runs::new(machine, SEED).take(50).collect();
         same(&runs);
         let mut told = runs.clone();
@@ -97,7 +97,7 @@ fn a_difference_is_found() {
         let lists = u16::from_be_bytes([record.input[6], record.input[7]]);
         let last = record.input.len() - usize::from(lists) - 24;
         record.input[last + 7] = 0;
-        assert!(compare(&told).is_err(), "{}: another answer", NAMES[machine]);
+        assert!(compare(&told).is_err(), "{name}: another answer");
         let mut asked = runs;
         let line = asked[20].1.output.replacen(' ', " 1", 1);
         asked[20].1.output = line;

@@ -7,7 +7,7 @@ use compare::sessions::cases::{self, Case};
 use compare::sessions::over::Over;
 use session::abi::{self, Words, UNDO_RECORDS};
 use session::ffi::{self, Called, Lent, Reader, Told};
-use session::{Closing, Outcome, Question, Refusal, Refused, Session, Undo, UndoList};
+use session::{Call, Closing, Outcome, Question, Refusal, Refused, Session, Undo, UndoList};
 use world::plan::OddMap;
 use world::prng::Prng;
 use world::trace::{Event, Trace};
@@ -15,7 +15,7 @@ use world::{World, PAGE};
 
 mod lent;
 
-use lent::{refused, short, Copies};
+use lent::{changing, refused, short, Copies};
 
 const DAMAGES: u64 = if cfg!(debug_assertions) { 2_000 } else { 300_000 };
 /// So many turns lie between two at which everything is tried.
@@ -133,13 +133,13 @@ fn refused_calls_change_nothing_at_any_question() {
         let mut at = 0;
         idle(&session, &[close]);
         shortened(&session, "open", open);
-        let first = session.begin_open(&mut undo).expect("a fresh session");
+        let first = session.begin(Call::Open, &mut undo).expect("a fresh session");
         through(&mut session, &mut bus, &mut undo, first, &mut at);
         assert_eq!(session.result(), Ok(Outcome::Open));
         idle(&session, &[open]);
         shortened(&session, "close", close);
         undo.push(Undo { op: 0x20, ..Undo::default() }).expect("room");
-        let first = session.begin_close(&mut undo).expect("an open session");
+        let first = session.begin(Call::Close, &mut undo).expect("an open session");
         through(&mut session, &mut bus, &mut undo, first, &mut at);
         assert_eq!(session.result(), Ok(Outcome::Closed(Closing::Clean)));
         idle(&session, &[open, close]);
@@ -297,7 +297,7 @@ fn a_poll_touches_the_first_words_alone() {
     let mut bus = World::new(case.plan);
     let mut records = [Undo::default(); UNDO_RECORDS];
     let (mut session, mut undo) = (Session::new(), UndoList::new(&mut records));
-    let mut q = session.begin_open(&mut undo).expect("a fresh session");
+    let mut q = session.begin(Call::Open, &mut undo).expect("a fresh session");
     let (mut list, mut polled) = ([0; 64], 0);
     while q != Question::Finished {
         let before = Copies::of(&session);
@@ -348,17 +348,7 @@ fn closed_with(change: impl Fn(&mut UndoList), op: u16) -> (Vec<u16>, Outcome, u
     assert_eq!(session.open(&mut Over::new(&mut bus), &mut undo), Ok(Outcome::Open));
     bus.take();
     [0x21, 0x22].iter().for_each(|op| undo.push(Undo { op: *op, ..Undo::default() }).expect("room"));
-    let mut q = session.begin_close(&mut undo).expect("an open session");
-    let mut list = [0; 64];
-    let mut changed = false;
-    while q != Question::Finished {
-        let answer = session.ask(&mut Over::new(&mut bus), &mut list);
-        if !changed && bus.trace.posts().any(|p| p.op == op) {
-            changed = true;
-            change(&mut undo);
-        }
-        q = session.answer(answer, &mut undo).expect("an answer that suits");
-    }
+    changing(&mut session, Call::Close, &mut bus, &mut undo, op, &change);
     let sent = bus.take().posts().map(|p| p.op).take(5).collect();
     (sent, session.result().expect("a session"), undo.len())
 }
@@ -390,10 +380,10 @@ fn snapshots() -> Vec<(Copies, Question)> {
     let mut records = [Undo::default(); UNDO_RECORDS];
     let (mut session, mut undo) = (Session::new(), UndoList::new(&mut records));
     let mut list = [0; 64];
-    let mut q = session.begin_open(&mut undo).expect("a fresh session");
+    let mut q = session.begin(Call::Open, &mut undo).expect("a fresh session");
     for closing in [false, true] {
         if closing {
-            q = session.begin_close(&mut undo).expect("an open session");
+            q = session.begin(Call::Close, &mut undo).expect("an open session");
         }
         while q != Question::Finished {
             all.push((Copies::of(&session), q));

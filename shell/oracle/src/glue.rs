@@ -149,10 +149,10 @@ fn panic_text(payload: &(dyn Any + Send)) -> String {
 /// no panic crosses "efiapi".
 pub fn pci_io() -> PciIo {
     table(Functions {
-        mem_read,
-        mem_write,
-        config_read,
-        config_write,
+        mem_read: mem::<false>,
+        mem_write: mem::<true>,
+        config_read: config::<false>,
+        config_write: config::<true>,
         map,
         unmap,
         allocate_buffer,
@@ -184,63 +184,61 @@ unsafe fn hand_over<T>(answer: Option<T>, to: *mut c_void) -> Status {
     status(good)
 }
 
-// SAFETY (all functions below): only pci.rs calls them, with pointers to live
-// variables of the type that the width and the UEFI signature say.
-
-unsafe extern "efiapi" fn config_read(_: *mut PciIo, width: u32, offset: u32, count: usize, to: *mut c_void) -> Status {
-    match (width, count) {
-        (WIDTH_UINT16, 1) => unsafe { hand_over(ask(|b| b.config_read16(offset)), to) },
-        (WIDTH_UINT32, 1) => unsafe { hand_over(ask(|b| b.config_read32(offset)), to) },
-        _ => panic!("config read of width {width}, count {count}"),
+/// A read of one value to the driver's buffer, or a write of the value there.
+///
+/// # Safety
+/// `buffer` is a variable of the value's type.
+unsafe fn access<T, const WRITE: bool>(
+    buffer: *mut c_void,
+    read: impl FnOnce(&mut dyn Bus) -> Option<T>,
+    write: impl FnOnce(&mut dyn Bus, T) -> bool,
+) -> Status {
+    if WRITE {
+        // SAFETY: the caller's.
+        let value = unsafe { buffer.cast::<T>().read() };
+        status(ask(|b| write(b, value)))
+    } else {
+        // SAFETY: the caller's.
+        unsafe { hand_over(ask(read), buffer) }
     }
 }
 
-unsafe extern "efiapi" fn config_write(
+// SAFETY (all functions below): only pci.rs calls them, with pointers to live
+// variables of the type that the width and the UEFI signature say.
+
+/// `Pci.Read`, or `Pci.Write`.
+unsafe extern "efiapi" fn config<const WRITE: bool>(
     _: *mut PciIo,
     width: u32,
     offset: u32,
     count: usize,
-    from: *mut c_void,
+    buffer: *mut c_void,
 ) -> Status {
     match (width, count) {
-        (WIDTH_UINT16, 1) => {
-            let v = unsafe { from.cast::<u16>().read() };
-            status(ask(|b| b.config_write16(offset, v)))
-        }
-        (WIDTH_UINT32, 1) => {
-            let v = unsafe { from.cast::<u32>().read() };
-            status(ask(|b| b.config_write32(offset, v)))
-        }
-        _ => panic!("config write of width {width}, count {count}"),
+        (WIDTH_UINT16, 1) => unsafe {
+            access::<_, WRITE>(buffer, |b| b.config_read16(offset), |b, v| b.config_write16(offset, v))
+        },
+        (WIDTH_UINT32, 1) => unsafe {
+            access::<_, WRITE>(buffer, |b| b.config_read32(offset), |b, v| b.config_write32(offset, v))
+        },
+        _ => panic!("config access of width {width}, count {count}"),
     }
 }
 
-unsafe extern "efiapi" fn mem_read(
+/// `Mem.Read`, or `Mem.Write`. A new command begins a new wait.
+unsafe extern "efiapi" fn mem<const WRITE: bool>(
     _: *mut PciIo,
     width: u32,
     bar: u8,
     offset: u64,
     count: usize,
-    to: *mut c_void,
+    buffer: *mut c_void,
 ) -> Status {
-    assert_eq!((width, count), (WIDTH_UINT32, 1), "register read");
-    unsafe { hand_over(ask(|b| b.register_read(bar, offset)), to) }
-}
-
-unsafe extern "efiapi" fn mem_write(
-    _: *mut PciIo,
-    width: u32,
-    bar: u8,
-    offset: u64,
-    count: usize,
-    from: *mut c_void,
-) -> Status {
-    assert_eq!((width, count), (WIDTH_UINT32, 1), "register write");
-    if (bar, offset) == (BAR_DCS, GO_WRITE) {
+    assert_eq!((width, count), (WIDTH_UINT32, 1), "register access");
+    if WRITE && (bar, offset) == (BAR_DCS, GO_WRITE) {
         current().waited.set(0);
     }
-    let v = unsafe { from.cast::<u32>().read() };
-    status(ask(|b| b.register_write(bar, offset, v)))
+    unsafe { access::<_, WRITE>(buffer, |b| b.register_read(bar, offset), |b, v| b.register_write(bar, offset, v)) }
 }
 
 unsafe extern "efiapi" fn attributes(_: *mut PciIo, operation: u32, value: u64, to: *mut u64) -> Status {

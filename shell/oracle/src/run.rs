@@ -292,44 +292,9 @@ pub(crate) fn layout(p: &Profile) -> Layout {
 }
 
 pub(crate) fn capabilities(c: &DevCap) -> Capabilities {
-    Capabilities {
-        rsvd_qps: c.rsvd_qps,
-        rsvd_srqs: c.rsvd_srqs,
-        rsvd_cqs: c.rsvd_cqs,
-        rsvd_eqs: c.rsvd_eqs,
-        max_eqs: c.max_eqs,
-        rsvd_mtts: c.rsvd_mtts,
-        rsvd_mpts: c.rsvd_mpts,
-        rsvd_uars: c.rsvd_uars,
-        rsvd_pds: c.rsvd_pds,
-        log_max_qp_wqes: c.log_max_qp_wqes,
-        log_max_cqes: c.log_max_cqes,
-        num_sys_eqs: c.num_sys_eqs,
-        ports: c.ports,
-        flags: c.flags,
-        flags2: c.flags2,
-        bmme: c.bmme,
-        eth_prot_ctrl: c.eth_prot_ctrl,
-        eth_backpl_an_rep: c.eth_backpl_an_rep,
-        uar_bytes: c.uar_bytes,
-        entry: c.entry,
-        max_icm: c.max_icm,
-    }
+    world::capabilities_of!(c)
 }
 
 pub(crate) fn port(p: &PortInfo) -> Port {
-    Port {
-        num: p.num,
-        link_up: p.link_up,
-        b0: p.b0,
-        mtu_cap: p.mtu_cap,
-        log_macs: p.log_macs,
-        mac: p.mac,
-        autoneg: p.autoneg,
-        an_complete: p.an_complete,
-        speed: p.speed,
-        xcvr: p.xcvr,
-        wavelength: p.wavelength,
-        xcvr_code: p.xcvr_code,
-    }
+    world::port_of!(p)
 }

@@ -7,15 +7,20 @@ use crate::abi::Words;
 /// Pages that were handed over: their handle, where the device sees them, and how many there are.
 #[derive(Clone, Copy, PartialEq, Eq, Debug, Default)]
 pub struct Buffer {
+    /// The number that `Bus::allocate` gave.
     pub handle: u64,
+    /// The device address that `Bus::map` gave.
     pub address: u64,
+    /// How many pages of 4,096 bytes.
     pub pages: u64,
 }
 
 /// A range of ICM space: its card address, and the buffer behind it.
 #[derive(Clone, Copy, PartialEq, Eq, Debug, Default)]
 pub struct Range {
+    /// Its first card address.
     pub virt: u64,
+    /// What was mapped there.
     pub buffer: Buffer,
 }
 
@@ -34,13 +39,19 @@ pub struct Books {
     pub toggle: bool,
     /// A command may still run: its end was not seen.
     pub running: bool,
+    /// The closing will reset the card.
     pub broken: bool,
+    /// A quiesce has begun.
     pub silent: bool,
     /// The catastrophic buffer: BAR and offset.
     pub catas: Option<(u8, u64)>,
+    /// The pages behind the inbox.
     pub inbox: Option<Buffer>,
+    /// The pages behind the outbox.
     pub outbox: Option<Buffer>,
+    /// The firmware area.
     pub fa: Option<Buffer>,
+    /// The auxiliary area of the ICM.
     pub aux: Option<Buffer>,
     ranges: [Range; 14],
     range_count: usize,

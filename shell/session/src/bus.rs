@@ -11,9 +11,23 @@ pub type Mailbox = [u8; MAILBOX];
 pub enum Fence<'a> {
     /// The command dword is written next: copy both mailboxes to their pages, so that the device sees them before it sees
     /// the command.
-    ToDevice { inbox: &'a Mailbox, inbox_pages: u64, outbox: &'a Mailbox, outbox_pages: u64 },
+    ToDevice {
+        /// To be copied from.
+        inbox: &'a Mailbox,
+        /// The handle of the pages to be copied to.
+        inbox_pages: u64,
+        /// To be copied from.
+        outbox: &'a Mailbox,
+        /// The handle of the pages to be copied to.
+        outbox_pages: u64,
+    },
     /// The command was seen done: copy the outbox's page to the mailbox.
-    FromDevice { outbox: &'a mut Mailbox, outbox_pages: u64 },
+    FromDevice {
+        /// To be copied to.
+        outbox: &'a mut Mailbox,
+        /// The handle of the pages to be copied from.
+        outbox_pages: u64,
+    },
 }
 
 /// The bus and the host. `None` and `false` say "failed"; a warning counts as failed.

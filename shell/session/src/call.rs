@@ -6,23 +6,72 @@ use crate::ffi::Called;
 /// A client command without its parameters. Its opcode is none that bring-up or closing sends, queries excepted.
 #[derive(Clone, Copy, PartialEq, Eq, Debug, Default)]
 pub struct Command {
+    /// The opcode.
     pub op: u16,
+    /// The opcode modifier.
     pub op_mod: u8,
+    /// The input modifier.
     pub in_mod: u32,
 }
 
-/// A call. The methods of `Session` of the same names say what each does.
+/// A call. The five forms of a client command give `Outcome::Done`, or `Outcome::CallFailed` with `Status`, `Timeout`, `Busy`
+/// or `Bus`, of which the last three break the session: its closing will reset the card.
 #[derive(Clone, Copy, PartialEq, Eq, Debug)]
 pub enum Call<'a> {
+    /// Brings the card up. Gives `Outcome::Open` or `Outcome::Failed`.
     Open,
-    Imm { command: Command, in_param: u64 },
-    WithIn { command: Command, input: &'a [u8] },
-    WithOut { command: Command },
-    InImm { command: Command, input: &'a [u8] },
-    InOut { command: Command, input: &'a [u8] },
-    Lend { bytes: u64 },
-    UndoTo { mark: usize },
+    /// A client command with an immediate in, and one out.
+    Imm {
+        /// What is sent.
+        command: Command,
+        /// The immediate in.
+        in_param: u64,
+    },
+    /// A client command with an inbox: zeros, and `input` from its first byte on. The inbox is so whatever the command comes
+    /// to.
+    WithIn {
+        /// What is sent.
+        command: Command,
+        /// 4,096 bytes at most.
+        input: &'a [u8],
+    },
+    /// A client command with an outbox, which is zeroed first whatever the command comes to; `Session::outbox` has the reply.
+    WithOut {
+        /// What is sent.
+        command: Command,
+    },
+    /// A client command with an inbox as in `WithIn`, and an immediate out.
+    InImm {
+        /// What is sent.
+        command: Command,
+        /// 4,096 bytes at most.
+        input: &'a [u8],
+    },
+    /// A client command with an inbox as in `WithIn` and an outbox as in `WithOut`.
+    InOut {
+        /// What is sent.
+        command: Command,
+        /// 4,096 bytes at most.
+        input: &'a [u8],
+    },
+    /// Pages of so many bytes, one page at least, that the card may use until the session is closed. Gives `Outcome::Lent`, or
+    /// `Outcome::CallFailed` with `Memory` or `Address`, where nothing is lent.
+    Lend {
+        /// How many; they are made up to whole pages.
+        bytes: u64,
+    },
+    /// Sends the undo records, newest first, until no more than `mark` are on the list. Gives `Outcome::Open`, or
+    /// `Outcome::CallFailed` with `Undo` where one fails, which breaks the session, or where it is broken and one is wanted;
+    /// or with `Reserved` where one has become so meanwhile. The records that were sent are off the list.
+    UndoTo {
+        /// So many records stay on the list: what `UndoList::mark` gave.
+        mark: usize,
+    },
+    /// Stops the firmware by the commands of a closing and turns the card's bus mastering off, whatever fails on the way.
+    /// Nothing is freed, so that it can be called where no memory may be. Gives `Outcome::Open`; the session is broken, and
+    /// its closing will reset the card.
     Quiesce,
+    /// Takes back what is on the undo list, and gives up the card with all that it holds. Gives `Outcome::Closed`.
     Close,
 }
 

@@ -1,20 +1,27 @@
-//! The functions of include/hca.h over slices of any length. All that is unsafe stands here.
+//! The functions of include/hca.h over slices of any length. All that is unsafe stands here; `c` has them as they are.
 //!
 //! The library is compiled for the System V calling convention, which on a UEFI target is not that of "C"; so it is named.
 //!
 //! The functions read and write the slices that they are lent, keep no pointer, and end on any bytes, lengths and
-//! numbers; so each of these is safe to call.
+//! numbers; so each of these is safe to call, those of `c` apart.
 
 use crate::abi;
 use crate::undo::Undo;
 
-mod c {
+/// The functions as include/hca.h has them: a pointer and a length for each slice.
+pub mod c {
     extern "sysv64" {
+        /// As include/hca.h has it.
         pub fn hca_fresh(state: *mut u8, state_bytes: usize) -> u32;
+        /// As include/hca.h has it.
         pub fn hca_question(state: *const u8, state_bytes: usize, out: *mut u8, out_bytes: usize) -> u32;
+        /// As include/hca.h has it.
         pub fn hca_result(state: *const u8, state_bytes: usize, out: *mut u8, out_bytes: usize) -> u32;
+        /// As include/hca.h has it.
         pub fn hca_setup(state: *const u8, state_bytes: usize, out: *mut u8, out_bytes: usize) -> u32;
+        /// As include/hca.h has it.
         pub fn hca_books(state: *const u8, state_bytes: usize, out: *mut u8, out_bytes: usize) -> u32;
+        /// As include/hca.h has it.
         pub fn hca_call(
             state: *mut u8,
             state_bytes: usize,
@@ -35,6 +42,7 @@ mod c {
             out: *mut u8,
             out_bytes: usize,
         ) -> u32;
+        /// As include/hca.h has it.
         pub fn hca_answer(
             state: *mut u8,
             state_bytes: usize,
@@ -53,6 +61,7 @@ mod c {
             out: *mut u8,
             out_bytes: usize,
         ) -> u32;
+        /// As include/hca.h has it.
         pub fn hca_push_undo(
             undo: *mut super::Undo,
             undo_records: usize,
@@ -67,29 +76,43 @@ mod c {
 
 /// What every call on a session is lent.
 pub struct Lent<'a> {
+    /// The session.
     pub state: &'a mut [u8],
+    /// The mailbox that goes to the card.
     pub inbox: &'a mut [u8],
+    /// The mailbox that comes back.
     pub outbox: &'a mut [u8],
-    /// The undo list, and how many of these are on it.
+    /// The undo list with all its places.
     pub undo: &'a [Undo],
+    /// How many of these are on it.
     pub count: usize,
+    /// Where the next question and the count of records go.
     pub out: &'a mut [u8],
 }
 
 /// A call as it crosses: its kind and its arguments, of which a kind looks at its own.
 #[derive(Clone, Copy, PartialEq, Eq, Debug)]
 pub struct Called<'a> {
+    /// One of `abi::OPEN` to `abi::CLOSE`.
     pub kind: u32,
+    /// A command's opcode.
     pub op: u16,
+    /// A command's opcode modifier.
     pub op_mod: u8,
+    /// A command's input modifier.
     pub in_mod: u32,
+    /// The immediate in, the bytes to be lent, or the mark.
     pub value: u64,
+    /// A command's input.
     pub input: &'a [u8],
 }
 
 impl Called<'static> {
+    /// `Call::Open`.
     pub const OPEN: Called<'static> = Called::of(abi::OPEN, 0);
+    /// `Call::Quiesce`.
     pub const QUIESCE: Called<'static> = Called::of(abi::QUIESCE, 0);
+    /// `Call::Close`.
     pub const CLOSE: Called<'static> = Called::of(abi::CLOSE, 0);
 
     /// A call that is no command, and its number.
@@ -101,9 +124,13 @@ impl Called<'static> {
 /// An answer as it crosses: its kind, two values, and the bytes of a resource list.
 #[derive(Clone, Copy, PartialEq, Eq, Debug)]
 pub struct Told<'a> {
+    /// One of `abi::WORD` to `abi::LIST`.
     pub kind: u32,
+    /// Its first value.
     pub a: u64,
+    /// Its second value.
     pub b: u64,
+    /// The bytes of a resource list.
     pub resource: &'a [u8],
 }
 
@@ -113,58 +140,39 @@ pub fn fresh(state: &mut [u8]) -> u32 {
     unsafe { c::hca_fresh(state.as_mut_ptr(), state.len()) }
 }
 
+/// A function of a session, with its own arguments between the state and the rest of what it is lent.
+macro_rules! on_session {
+    ($function:path, $lent:expr, $($own:expr),*) => {{
+        let Lent { state, inbox, outbox, undo, count, out } = $lent;
+        // SAFETY: six slices, lent as they are; none overlaps a mutable one.
+        unsafe {
+            $function(
+                state.as_mut_ptr(),
+                state.len(),
+                $($own,)*
+                inbox.as_mut_ptr(),
+                inbox.len(),
+                outbox.as_mut_ptr(),
+                outbox.len(),
+                undo.as_ptr(),
+                undo.len(),
+                count,
+                out.as_mut_ptr(),
+                out.len(),
+            )
+        }
+    }};
+}
+
 /// `hca_call`.
 pub fn call(l: Lent, c: Called) -> u32 {
-    let (state, inbox, outbox, out) = (l.state, l.inbox, l.outbox, l.out);
-    // SAFETY: six slices, lent as they are; none overlaps a mutable one.
-    unsafe {
-        c::hca_call(
-            state.as_mut_ptr(),
-            state.len(),
-            c.kind,
-            c.op,
-            c.op_mod,
-            c.in_mod,
-            c.value,
-            c.input.as_ptr(),
-            c.input.len(),
-            inbox.as_mut_ptr(),
-            inbox.len(),
-            outbox.as_mut_ptr(),
-            outbox.len(),
-            l.undo.as_ptr(),
-            l.undo.len(),
-            l.count,
-            out.as_mut_ptr(),
-            out.len(),
-        )
-    }
+    let (input, bytes) = (c.input.as_ptr(), c.input.len());
+    on_session!(c::hca_call, l, c.kind, c.op, c.op_mod, c.in_mod, c.value, input, bytes)
 }
 
 /// `hca_answer`.
 pub fn answer(l: Lent, t: Told) -> u32 {
-    let (state, inbox, outbox, out) = (l.state, l.inbox, l.outbox, l.out);
-    // SAFETY: six slices, lent as they are; none overlaps a mutable one.
-    unsafe {
-        c::hca_answer(
-            state.as_mut_ptr(),
-            state.len(),
-            t.kind,
-            t.a,
-            t.b,
-            t.resource.as_ptr(),
-            t.resource.len(),
-            inbox.as_mut_ptr(),
-            inbox.len(),
-            outbox.as_mut_ptr(),
-            outbox.len(),
-            l.undo.as_ptr(),
-            l.undo.len(),
-            l.count,
-            out.as_mut_ptr(),
-            out.len(),
-        )
-    }
+    on_session!(c::hca_answer, l, t.kind, t.a, t.b, t.resource.as_ptr(), t.resource.len())
 }
 
 /// `hca_push_undo`.
@@ -176,9 +184,13 @@ pub fn push_undo(undo: &mut [Undo], count: usize, u: Undo) -> u32 {
 /// What is read of a session without changing it.
 #[derive(Clone, Copy, PartialEq, Eq, Debug)]
 pub enum Reader {
+    /// `hca_question`.
     Question,
+    /// `hca_result`.
     Result,
+    /// `hca_setup`.
     Setup,
+    /// `hca_books`.
     Books,
 }
 

@@ -17,13 +17,24 @@ pub enum Refusal {
     /// 5: pages could not be allocated or mapped.
     Memory,
     /// 6: a command ended with a status, after so many microseconds.
-    Status { status: u8, us: u64 },
+    Status {
+        /// What the card said.
+        status: u8,
+        /// The microseconds waited.
+        us: u64,
+    },
     /// 7: a command did not end.
-    Timeout { us: u64 },
+    Timeout {
+        /// The microseconds waited: 60 s.
+        us: u64,
+    },
     /// 8: the command register was busy before a command.
     Busy,
     /// 9: the bus failed within a command.
-    Bus { us: u64 },
+    Bus {
+        /// The microseconds waited until then.
+        us: u64,
+    },
     /// 10: not the primary function.
     NotPrimary,
     /// 11: the revision of the command interface.
@@ -135,11 +146,14 @@ pub enum Outcome {
     Open,
     /// The opening failed, and was closed as it says.
     Failed(Refusal, Closing),
+    /// Closed, as it says.
     Closed(Closing),
     /// The session is open, and its last call was a good command: its immediate, 0 where the form has none, and the
     /// microseconds waited.
     Done {
+        /// The immediate out.
         immediate: u64,
+        /// The microseconds waited.
         us: u64,
     },
     /// The session is open, and its last call lent this buffer.

@@ -6,9 +6,13 @@ use crate::ffi::Told;
 /// An attribute call of PCI I/O.
 #[derive(Clone, Copy, PartialEq, Eq, Debug)]
 pub enum Attribute {
+    /// `EfiPciIoAttributeOperationGet`.
     Get,
+    /// `EfiPciIoAttributeOperationSet`.
     Set,
+    /// `EfiPciIoAttributeOperationEnable`.
     Enable,
+    /// `EfiPciIoAttributeOperationSupported`.
     Supported,
 }
 
@@ -34,53 +38,88 @@ impl Attribute {
 pub enum Question {
     /// Nothing is asked: the call has its result.
     Finished,
+    /// `Bus::config_read16`.
     ConfigRead16 {
+        /// In configuration space.
         offset: u16,
     },
+    /// `Bus::config_read32`.
     ConfigRead32 {
+        /// In configuration space.
         offset: u16,
     },
+    /// `Bus::config_write16`.
     ConfigWrite16 {
+        /// In configuration space.
         offset: u16,
+        /// What is written.
         value: u16,
     },
+    /// `Bus::config_write32`.
     ConfigWrite32 {
+        /// In configuration space.
         offset: u16,
+        /// What is written.
         value: u32,
     },
+    /// `Bus::register_read`.
     RegisterRead {
+        /// The index that PCI I/O has for the BAR.
         bar: u8,
+        /// From the BAR's beginning.
         offset: u64,
     },
+    /// `Bus::register_write`.
     RegisterWrite {
+        /// The index that PCI I/O has for the BAR.
         bar: u8,
+        /// From the BAR's beginning.
         offset: u64,
+        /// What is written, as it stands.
         value: u32,
     },
+    /// `Bus::attributes`.
     Attributes {
+        /// The operation.
         call: Attribute,
+        /// What is set or enabled.
         value: u64,
     },
+    /// `Bus::resource`.
     Resource {
+        /// The index that PCI I/O has for the BAR.
         bar: u8,
     },
+    /// `Bus::stall`.
     Stall {
+        /// Microseconds.
         us: u32,
     },
+    /// `Bus::allocate`.
     Allocate {
+        /// How many pages of 4,096 bytes.
         pages: u64,
     },
+    /// `Bus::map`.
     Map {
+        /// Of the pages.
         handle: u64,
+        /// All bytes of the pages.
         bytes: u64,
     },
+    /// `Bus::unmap`.
     Unmap {
+        /// Of the pages.
         handle: u64,
     },
+    /// `Bus::free`.
     Free {
+        /// Of the pages.
         handle: u64,
+        /// How many there are.
         pages: u64,
     },
+    /// `Bus::fence`.
     Fence,
 }
 
@@ -113,7 +152,9 @@ impl Question {
 /// A good map: where the device sees the pages, and how many bytes were mapped, whatever was asked for.
 #[derive(Clone, Copy, PartialEq, Eq, Debug)]
 pub struct Mapping {
+    /// The device address.
     pub address: u64,
+    /// What `Map` left in its count of bytes.
     pub bytes: u64,
 }
 
@@ -132,6 +173,7 @@ pub enum Answer<'a> {
     Failed,
     /// The pages that were allocated, by any number.
     Handle(u64),
+    /// A map that was good, of whatever size.
     Mapped(Mapping),
     /// A resource list.
     List(&'a [u8]),

@@ -3,7 +3,7 @@
 use crate::abi::{self, Words, MAILBOX, STATE, TURN};
 use crate::books::Books;
 use crate::bus::{Bus, Fence, Mailbox};
-use crate::call::{Call, Command};
+use crate::call::Call;
 use crate::ffi::{self, Lent, Reader};
 use crate::outcome::Outcome;
 use crate::question::{Answer, Question};
@@ -11,12 +11,13 @@ use crate::setup::Setup;
 use crate::undo::UndoList;
 
 /// Why a call was not taken. It has changed nothing, and an open question stays open. Where several fit, it is the first of
-/// 20, 21, 22, 19, 18.
+/// 20, 21, 22, 19, 18; `UndoList::push` looks for a place in its slice last.
 #[derive(Clone, Copy, PartialEq, Eq, Debug)]
 pub enum Refused {
     /// 20: a call at the wrong time, an answer of the wrong kind, or bytes that are no session.
     Wrong,
-    /// 21: an input of more than 4,096 bytes, or a slice for undo records that has no place left.
+    /// 21: an input of more than 4,096 bytes, more than 256 records on the undo list, or a slice for them that has no place
+    /// left.
     Short,
     /// 22: an opcode that bring-up or closing sends, queries excepted, or that is above 0xfff; at `undo_to` that of any
     /// record that is wanted.
@@ -66,84 +67,12 @@ impl Session {
         Session { state, inbox, outbox, question: Question::Finished, before: false, boxes: [0; 2], allocated: 0 }
     }
 
-    /// Brings the card up. Gives `Outcome::Open` or `Outcome::Failed`.
+    /// `Call::Open`, to its result.
     pub fn open(&mut self, bus: &mut impl Bus, undo: &mut UndoList) -> Result<Outcome, Refused> {
         self.call(Call::Open, bus, undo)
     }
 
-    /// A client command with an immediate in, and one out. This form and the four below give `Outcome::Done`, or
-    /// `Outcome::CallFailed` with `Status`, `Timeout`, `Busy` or `Bus`, of which the last three break the session: its closing
-    /// will reset the card.
-    pub fn imm(
-        &mut self,
-        bus: &mut impl Bus,
-        undo: &mut UndoList,
-        c: Command,
-        in_param: u64,
-    ) -> Result<Outcome, Refused> {
-        self.call(Call::Imm { command: c, in_param }, bus, undo)
-    }
-
-    /// A client command with an inbox: zeros, and `input` from its first byte on. The inbox is so whatever the command comes
-    /// to.
-    pub fn with_in(
-        &mut self,
-        bus: &mut impl Bus,
-        undo: &mut UndoList,
-        c: Command,
-        input: &[u8],
-    ) -> Result<Outcome, Refused> {
-        self.call(Call::WithIn { command: c, input }, bus, undo)
-    }
-
-    /// A client command with an outbox, which is zeroed first whatever the command comes to; `outbox` has the reply.
-    pub fn with_out(&mut self, bus: &mut impl Bus, undo: &mut UndoList, c: Command) -> Result<Outcome, Refused> {
-        self.call(Call::WithOut { command: c }, bus, undo)
-    }
-
-    /// A client command with an inbox as in `with_in`, and an immediate out.
-    pub fn in_imm(
-        &mut self,
-        bus: &mut impl Bus,
-        undo: &mut UndoList,
-        c: Command,
-        input: &[u8],
-    ) -> Result<Outcome, Refused> {
-        self.call(Call::InImm { command: c, input }, bus, undo)
-    }
-
-    /// A client command with an inbox as in `with_in` and an outbox as in `with_out`.
-    pub fn in_out(
-        &mut self,
-        bus: &mut impl Bus,
-        undo: &mut UndoList,
-        c: Command,
-        input: &[u8],
-    ) -> Result<Outcome, Refused> {
-        self.call(Call::InOut { command: c, input }, bus, undo)
-    }
-
-    /// Pages of so many bytes, one page at least, that the card may use until the session is closed. Gives `Outcome::Lent`, or
-    /// `Outcome::CallFailed` with `Memory` or `Address`, where nothing is lent.
-    pub fn lend(&mut self, bus: &mut impl Bus, undo: &mut UndoList, bytes: u64) -> Result<Outcome, Refused> {
-        self.call(Call::Lend { bytes }, bus, undo)
-    }
-
-    /// Sends the undo records, newest first, until no more than `mark` are on the list. Gives `Outcome::Open`, or
-    /// `Outcome::CallFailed` with `Undo` where one fails, which breaks the session, or where it is broken and one is wanted;
-    /// or with `Reserved` where one has become so meanwhile. The records that were sent are off the list.
-    pub fn undo_to(&mut self, bus: &mut impl Bus, undo: &mut UndoList, mark: usize) -> Result<Outcome, Refused> {
-        self.call(Call::UndoTo { mark }, bus, undo)
-    }
-
-    /// Stops the firmware by the commands of a closing and turns the card's bus mastering off, whatever fails on the way.
-    /// Nothing is freed, so that it can be called where no memory may be. Gives `Outcome::Open`; the session is broken, and
-    /// its closing will reset the card.
-    pub fn quiesce(&mut self, bus: &mut impl Bus, undo: &mut UndoList) -> Result<Outcome, Refused> {
-        self.call(Call::Quiesce, bus, undo)
-    }
-
-    /// Takes back what is on the undo list, and gives up the card with all that it holds. Gives `Outcome::Closed`.
+    /// `Call::Close`, to its result.
     pub fn close(&mut self, bus: &mut impl Bus, undo: &mut UndoList) -> Result<Outcome, Refused> {
         self.call(Call::Close, bus, undo)
     }
@@ -167,56 +96,6 @@ impl Session {
     /// Begins a call; its first question, or `Question::Finished` where there is nothing to ask.
     pub fn begin(&mut self, call: Call, undo: &mut UndoList) -> Result<Question, Refused> {
         self.turn(undo, |lent| ffi::call(lent, call.called()))
-    }
-
-    /// Begins an opening.
-    pub fn begin_open(&mut self, undo: &mut UndoList) -> Result<Question, Refused> {
-        self.begin(Call::Open, undo)
-    }
-
-    /// Begins `imm`.
-    pub fn begin_imm(&mut self, undo: &mut UndoList, c: Command, in_param: u64) -> Result<Question, Refused> {
-        self.begin(Call::Imm { command: c, in_param }, undo)
-    }
-
-    /// Begins `with_in`.
-    pub fn begin_with_in(&mut self, undo: &mut UndoList, c: Command, input: &[u8]) -> Result<Question, Refused> {
-        self.begin(Call::WithIn { command: c, input }, undo)
-    }
-
-    /// Begins `with_out`.
-    pub fn begin_with_out(&mut self, undo: &mut UndoList, c: Command) -> Result<Question, Refused> {
-        self.begin(Call::WithOut { command: c }, undo)
-    }
-
-    /// Begins `in_imm`.
-    pub fn begin_in_imm(&mut self, undo: &mut UndoList, c: Command, input: &[u8]) -> Result<Question, Refused> {
-        self.begin(Call::InImm { command: c, input }, undo)
-    }
-
-    /// Begins `in_out`.
-    pub fn begin_in_out(&mut self, undo: &mut UndoList, c: Command, input: &[u8]) -> Result<Question, Refused> {
-        self.begin(Call::InOut { command: c, input }, undo)
-    }
-
-    /// Begins `lend`.
-    pub fn begin_lend(&mut self, undo: &mut UndoList, bytes: u64) -> Result<Question, Refused> {
-        self.begin(Call::Lend { bytes }, undo)
-    }
-
-    /// Begins `undo_to`.
-    pub fn begin_undo_to(&mut self, undo: &mut UndoList, mark: usize) -> Result<Question, Refused> {
-        self.begin(Call::UndoTo { mark }, undo)
-    }
-
-    /// Begins `quiesce`.
-    pub fn begin_quiesce(&mut self, undo: &mut UndoList) -> Result<Question, Refused> {
-        self.begin(Call::Quiesce, undo)
-    }
-
-    /// Begins a close.
-    pub fn begin_close(&mut self, undo: &mut UndoList) -> Result<Question, Refused> {
-        self.begin(Call::Close, undo)
     }
 
     /// Hands in what came of the open question; the next one.
@@ -300,10 +179,12 @@ impl Session {
         &self.state
     }
 
+    /// The inbox, as it is lent.
     pub fn inbox(&self) -> &Mailbox {
         &self.inbox
     }
 
+    /// The outbox, as it is lent: after a good `WithOut` or `InOut` it has the reply, until the next call.
     pub fn outbox(&self) -> &Mailbox {
         &self.outbox
     }

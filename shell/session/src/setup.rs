@@ -7,10 +7,15 @@ use crate::abi::Words;
 /// How the index of the UAR BAR was chosen.
 #[derive(Clone, Copy, PartialEq, Eq, Debug)]
 pub enum How {
+    /// Its list has the base in configuration space.
     BaseMatches,
+    /// All indexes were asked, and this one has that base.
     Scan,
+    /// It is the only one of the two candidates with a list.
     OnlyAnswer,
+    /// No list has that base: it is the number of the register.
     NoMatch,
+    /// There is no list: it is the number of the register.
     NoAnswer,
 }
 
@@ -24,36 +29,58 @@ impl How {
 /// The BAR of the UAR area.
 #[derive(Clone, Copy, PartialEq, Eq, Debug)]
 pub struct Uar {
+    /// The index that PCI I/O has for it.
     pub index: u8,
     /// Its length, where PCI I/O told one.
     pub length: Option<u64>,
+    /// How it was chosen.
     pub how: How,
 }
 
 /// The capabilities, with the reserved EQs, the EQs and the reserved UARs as QUERY_FUNC gives them where it was sent.
 #[derive(Clone, Copy, PartialEq, Eq, Debug)]
 pub struct Capabilities {
+    /// Reserved QPs.
     pub rsvd_qps: u64,
+    /// Reserved SRQs.
     pub rsvd_srqs: u64,
+    /// Reserved CQs.
     pub rsvd_cqs: u64,
+    /// Reserved EQs.
     pub rsvd_eqs: u64,
+    /// EQs.
     pub max_eqs: u64,
+    /// Reserved MTTs.
     pub rsvd_mtts: u64,
+    /// Reserved MPTs.
     pub rsvd_mpts: u64,
+    /// Reserved UARs.
     pub rsvd_uars: u64,
+    /// Reserved PDs.
     pub rsvd_pds: u64,
+    /// System EQs; 0 where the card has none.
     pub num_sys_eqs: u64,
+    /// Ports: 1 or 2.
     pub ports: u8,
+    /// The logarithm of the most entries of a QP.
     pub log_max_qp_wqes: u8,
+    /// The logarithm of the most entries of a CQ.
     pub log_max_cqes: u8,
+    /// The logarithm of the least page.
     pub log_min_page: u8,
+    /// The capability flags.
     pub flags: u64,
+    /// The extended flags 2.
     pub flags2: u32,
+    /// The BMME flags.
     pub bmme: u32,
     /// The PTYS register may be used.
     pub eth_prot_ctrl: bool,
+    /// Backplane autonegotiation is reported.
     pub eth_backpl_an_rep: bool,
+    /// The bytes of the UAR area.
     pub uar_bytes: u64,
+    /// The most bytes that the tables may have.
     pub max_icm: u64,
     /// Entry sizes by table index.
     pub entry: [u64; 11],
@@ -62,17 +89,29 @@ pub struct Capabilities {
 /// What QUERY_PORT said about a port.
 #[derive(Clone, Copy, PartialEq, Eq, Debug)]
 pub struct Port {
+    /// Its number, 1 or 2.
     pub num: u8,
+    /// The link is up.
     pub link_up: bool,
+    /// Byte 0: the types of link that it supports, the one suggested, and whether it senses by default.
     pub b0: u8,
+    /// The largest MTU.
     pub mtu_cap: u16,
+    /// The logarithm of its MAC addresses.
     pub log_macs: u8,
+    /// Autonegotiation is on.
     pub autoneg: bool,
+    /// Autonegotiation is complete.
     pub an_complete: bool,
+    /// The code of the link speed; it means something only while the link is up.
     pub speed: u8,
+    /// The transceiver's type, above 24 bits of its vendor.
     pub xcvr: u32,
+    /// The transceiver's wavelength.
     pub wavelength: u16,
+    /// The transceiver's code.
     pub xcvr_code: u64,
+    /// The MAC address.
     pub mac: [u8; 6],
 }
 
@@ -81,19 +120,26 @@ pub struct Port {
 pub struct Table {
     /// QPC, RDMARC, ALTC, AUXC, SRQC, CQC, EQC, dMPT, cMPT, MTT, MCG, from 0.
     pub index: u8,
+    /// The bytes of an entry.
     pub entry: u64,
+    /// How many entries.
     pub count: u64,
+    /// Its bytes, all of them card addresses from `base` on.
     pub bytes: u64,
+    /// Its first card address.
     pub base: u64,
 }
 
 /// What an opening has found out.
 #[derive(Clone, PartialEq, Eq, Debug)]
 pub struct Setup {
+    /// The BAR of the UAR area.
     pub uar: Uar,
     /// Reserved EQs, EQs and reserved UARs by QUERY_FUNC, or the capabilities' own where it was not sent.
     pub func: [u64; 3],
+    /// The command interface is of revision 3; else 2.
     pub rev3: bool,
+    /// The capabilities.
     pub cap: Capabilities,
     ports: [Port; 2],
     asked: usize,
@@ -101,6 +147,7 @@ pub struct Setup {
     pub total: u64,
     /// The first special QP.
     pub base_sqpn: u64,
+    /// The first MTT behind the reserved ones.
     pub first_free_mtt: u64,
     /// The tables in the order of their bases.
     pub tables: [Table; 11],

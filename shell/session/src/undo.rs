@@ -7,9 +7,13 @@ use crate::session::{taken, Refused};
 #[repr(C)]
 #[derive(Clone, Copy, PartialEq, Eq, Debug, Default)]
 pub struct Undo {
+    /// The opcode.
     pub op: u16,
+    /// The opcode modifier.
     pub op_mod: u8,
+    /// The input modifier.
     pub in_mod: u32,
+    /// The immediate in.
     pub in_param: u64,
 }
 
@@ -29,7 +33,7 @@ impl<'a> UndoList<'a> {
         UndoList { records, count: 0 }
     }
 
-    /// The first so many are on the list, no more than there are.
+    /// The first so many are on the list, no more than there are. With more than `abi::UNDO_RECORDS` no call takes it.
     pub fn holding(records: &'a mut [Undo], count: usize) -> UndoList<'a> {
         let count = count.min(records.len());
         UndoList { records, count }
@@ -43,15 +47,17 @@ impl<'a> UndoList<'a> {
         Ok(())
     }
 
-    /// Where the list stands, for `Session::undo_to`.
+    /// Where the list stands, for `Call::UndoTo`.
     pub fn mark(&self) -> usize {
         self.count
     }
 
+    /// How many records are on the list.
     pub fn len(&self) -> usize {
         self.count
     }
 
+    /// No record is on the list.
     pub fn is_empty(&self) -> bool {
         self.count == 0
     }
@@ -61,6 +67,7 @@ impl<'a> UndoList<'a> {
         self.count = self.count.min(count);
     }
 
+    /// The records, oldest first.
     pub fn records(&self) -> &[Undo] {
         &self.records[..self.count]
     }

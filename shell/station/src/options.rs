@@ -33,9 +33,11 @@ On the open session, in the order in which they are given:
   --quiesce                    stops the firmware and its bus mastering, and frees nothing
 
 OP is a name such as MAP_FA, or an opcode; of a client command or a record also OP/M, with an opcode modifier. MOD is the
-input modifier. Numbers are decimal, or hexadecimal after 0x; HEX is pairs of digits. Options other than --seed, --trace
-and --picture may be given several times. The exit status is 0 if the session was opened, every call on it was good, and it
-was closed clean, or by a reset behind a quiesce; 2 if an option is bad; else 1.
+input modifier. Numbers are decimal, or hexadecimal after 0x; HEX is pairs of digits. A value stands behind its option, or
+after = in the same word. Options other than --seed, --trace and --picture may be given several times.
+
+The exit status is 0 if the session was opened, every call on it was good, and it was closed clean, or by a reset behind a
+quiesce; 2 if an option is bad; else 1.
 ";
 
 /// Where a picture goes.
@@ -80,15 +82,16 @@ pub fn parse(args: impl IntoIterator<Item = String>) -> Result<Asked, String> {
         if with.is_some() && matches!(name, "--trace" | "--help" | "--quiesce") {
             return Err(format!("{name} takes no value"));
         }
-        let mut value = || with.clone().or_else(|| args.next()).ok_or_else(|| format!("{name} needs a value"));
+        let mut value = || with.clone().map_or_else(|| following(name, args.next()), Ok);
         match name {
             "--help" | "-h" => return Ok(Asked::Help),
+            "--trace" if options.trace => return Err(twice(name)),
             "--trace" => options.trace = true,
-            "--seed" => options.seed = Some(number(name, &value()?)?),
+            "--seed" => once(name, &mut options.seed, number(name, &value()?)?)?,
             "--fail" => options.faults.push(fault(&value()?)?),
             "--status" => options.commands.push(status(&value()?)?),
             "--timeout" => options.commands.push((opcode(name, &value()?)?, Behaviour { polls: NEVER, status: 0 })),
-            "--picture" => options.picture = Some(picture(value()?)?),
+            "--picture" => once(name, &mut options.picture, picture(value()?)?)?,
             _ => match Use::parse(name, &mut value)? {
                 Some(it) => options.uses.push(it),
                 None => return Err(format!("no such option: {arg}")),
@@ -98,12 +101,32 @@ pub fn parse(args: impl IntoIterator<Item = String>) -> Result<Asked, String> {
     Ok(Asked::Session(options))
 }
 
+/// The value of an option that was given without one: the next argument, unless that is an option itself.
+fn following(option: &str, next: Option<String>) -> Result<String, String> {
+    match next {
+        Some(text) if text.starts_with("--") => Err(format!("{option} needs a value, and {text} is an option")),
+        Some(text) => Ok(text),
+        None => Err(format!("{option} needs a value")),
+    }
+}
+
+fn twice(option: &str) -> String {
+    format!("{option} is given twice")
+}
+
+fn once<T>(option: &str, place: &mut Option<T>, value: T) -> Result<(), String> {
+    place.replace(value).map_or(Ok(()), |_| Err(twice(option)))
+}
+
 pub fn number(option: &str, text: &str) -> Result<u64, String> {
-    let parsed = match text.strip_prefix("0x") {
-        Some(digits) if !digits.starts_with('+') => u64::from_str_radix(digits, 16).ok(),
-        _ => text.parse().ok(),
-    };
-    parsed.ok_or_else(|| format!("{option}: not a number: {text}"))
+    if text.is_empty() {
+        return Err(format!("{option}: a number is missing"));
+    }
+    let (digits, radix) = text.strip_prefix("0x").map_or((text, 10), |digits| (digits, 16));
+    if digits.is_empty() || !digits.chars().all(|c| c.is_digit(radix)) {
+        return Err(format!("{option}: not a number: {text}"));
+    }
+    u64::from_str_radix(digits, radix).map_err(|_| format!("{option}: too large, 2^64 or more: {text}"))
 }
 
 fn fault(text: &str) -> Result<Fault, String> {
@@ -118,7 +141,8 @@ fn fault(text: &str) -> Result<Fault, String> {
 
 fn status(text: &str) -> Result<(u16, Behaviour), String> {
     let (op, status) = text.split_once('=').ok_or_else(|| format!("--status: not OP=S: {text}"))?;
-    let status = u8::try_from(number("--status", status)?).map_err(|_| "--status: a status is below 256")?;
+    let narrow = |_| format!("--status: a status is below 256, not {status}");
+    let status = u8::try_from(number("--status", status)?).map_err(narrow)?;
     Ok((opcode("--status", op)?, Behaviour { polls: 1, status }))
 }
 
@@ -126,8 +150,14 @@ pub fn opcode(option: &str, text: &str) -> Result<u16, String> {
     if let Some((op, _)) = COMMANDS.iter().find(|(_, name)| name.eq_ignore_ascii_case(text)) {
         return Ok(*op);
     }
-    let op = number(option, text).map_err(|_| format!("{option}: no such command: {text}"))?;
-    u16::try_from(op).ok().filter(|op| *op < 0x1000).ok_or_else(|| format!("{option}: an opcode is below 0x1000"))
+    if text.is_empty() {
+        return Err(format!("{option}: a command is missing"));
+    }
+    let named = !text.starts_with(|c: char| c.is_ascii_digit());
+    let op =
+        number(option, text).map_err(|why| if named { format!("{option}: no such command: {text}") } else { why })?;
+    let small = u16::try_from(op).ok().filter(|op| *op < 0x1000);
+    small.ok_or_else(|| format!("{option}: an opcode is below 0x1000, not {text}"))
 }
 
 fn picture(file: String) -> Result<Picture, String> {

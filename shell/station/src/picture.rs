@@ -1,5 +1,5 @@
-//! The layout as a picture: a bar for each table, in the order of their bases and each at its own scale, with the ranges
-//! that are mapped.
+//! The layout as a picture: a bar for each table, in the order of their bases, with the ranges that are mapped. Tables are of
+//! 4 KiB to some GiB, so a bar's length goes by the logarithm of its table's bytes; within a bar ranges lie at their place.
 
 use std::fmt::Write;
 
@@ -23,6 +23,13 @@ fn parts(t: &Table, b: &Books) -> Vec<Part> {
         Some(Part { from, to, pages: r.buffer.pages })
     };
     b.ranges().iter().filter_map(of).collect()
+}
+
+/// How long a table's bar is: as many steps as its bytes are doublings of a page, and one; the largest table's bar is `whole`.
+fn length(t: &Table, s: &Setup, whole: u64) -> u64 {
+    let steps = |bytes: u64| u64::from(bytes.max(PAGE).ilog2() - PAGE.ilog2() + 1);
+    let most = s.tables.iter().map(|t| steps(t.bytes)).max().unwrap_or(1);
+    (whole * steps(t.bytes) / most).max(1)
 }
 
 /// Where `at` of `whole` lies on a bar of that length.
@@ -50,29 +57,38 @@ fn summary(s: &Setup, b: &Books) -> String {
     )
 }
 
-const CELLS: usize = 40;
+const CELLS: u64 = 40;
+/// A bar with its ends.
+const FRAMED: usize = CELLS as usize + 2;
 
 /// A picture of text.
 pub fn text(s: &Setup, b: &Books) -> String {
     let mut all = format!("ICM layout: {}\n", summary(s, b));
     for t in &s.tables {
-        let parts = parts(t, b);
-        let mut bar = ['.'; CELLS];
-        for p in &parts {
-            let from = place(p.from, t.bytes, CELLS as u64) as usize;
-            let to = place(p.to, t.bytes, CELLS as u64) as usize;
-            bar[from..to.max(from + 1).min(CELLS)].fill('#');
-        }
-        let (bar, size) = (String::from_iter(bar), words::size(t.bytes));
-        let _ = writeln!(all, "{:<6} {:>12x} |{bar}| {size:>9}, {}", words::table(t.index), t.base, mapped(&parts));
+        let (parts, size) = (parts(t, b), words::size(t.bytes));
+        let bar = format!("|{}|", cells(t, &parts, length(t, s, CELLS)));
+        let (name, base, mapped) = (words::table(t.index), t.base, mapped(&parts));
+        let _ = writeln!(all, "{name:<6} {base:>12x} {bar:<FRAMED$} {size:>9}, {mapped}");
     }
-    all + "each bar is one table at its own scale: # is mapped, . is not\n"
+    all + "# is mapped, . is not; a bar grows one step for each doubling of its table's bytes\n"
+}
+
+/// The bar of a table.
+fn cells(t: &Table, parts: &[Part], length: u64) -> String {
+    let mut bar = vec!['.'; length as usize];
+    for p in parts {
+        let from = place(p.from, t.bytes, length) as usize;
+        let to = place(p.to, t.bytes, length) as usize;
+        let end = to.max(from + 1).min(bar.len());
+        bar[from..end].fill('#');
+    }
+    bar.into_iter().collect()
 }
 
 const WIDTH: u64 = 1000;
 const TOP: u64 = 96;
 const ROW: u64 = 52;
-/// The bars: left edge, length, height.
+/// The bars: left edge, the longest one's length, height.
 const BAR: (u64, u64, u64) = (200, 480, 24);
 /// The text at the right of the bars.
 const RIGHT: u64 = 700;
@@ -94,7 +110,7 @@ pub fn svg(s: &Setup, b: &Books) -> String {
     let _ = writeln!(all, "<text x=\"24\" y=\"54\">{}</text>", summary(s, b));
     all += &legend();
     for (i, t) in s.tables.iter().enumerate() {
-        all += &row(t, &parts(t, b), TOP + ROW * i as u64);
+        all += &row(t, &parts(t, b), TOP + ROW * i as u64, length(t, s, BAR.1));
     }
     all + "</svg>\n"
 }
@@ -102,12 +118,13 @@ pub fn svg(s: &Setup, b: &Books) -> String {
 fn legend() -> String {
     "<rect class=\"m\" x=\"24\" y=\"65\" width=\"14\" height=\"14\"/><text x=\"44\" y=\"77\">mapped</text>\n\
      <rect class=\"t\" x=\"110\" y=\"65\" width=\"14\" height=\"14\"/>\
-     <text x=\"130\" y=\"77\">not mapped; each bar is one table at its own scale, from its base on</text>\n"
+     <text x=\"130\" y=\"77\">not mapped; a bar grows one step for each doubling of its table's bytes, and a small range is drawn \
+     wider than it is</text>\n"
         .into()
 }
 
-fn row(t: &Table, parts: &[Part], y: u64) -> String {
-    let (x, length, height) = BAR;
+fn row(t: &Table, parts: &[Part], y: u64, length: u64) -> String {
+    let (x, _, height) = BAR;
     let name = words::table(t.index);
     let mut all = format!(
         "<text class=\"n\" x=\"24\" y=\"{}\">{name}</text><text x=\"24\" y=\"{}\">{} x {} B</text>\n\

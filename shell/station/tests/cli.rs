@@ -40,50 +40,101 @@ fn a_good_session() {
     assert_eq!(ran(&[]).2, "");
 }
 
+/// Command lines that are refused.
+const BAD: [&[&str]; 43] = [
+    &["--nope"],
+    &["extra"],
+    &["--seed"],
+    &["--seed", "-1"],
+    &["--seed", "0x"],
+    &["--seed", "18446744073709551616"],
+    &["--fail"],
+    &["--fail", "0"],
+    &["--fail", "x"],
+    &["--fail", "3:later"],
+    &["--fail", ":taken"],
+    &["--status"],
+    &["--status", "MAP_FA"],
+    &["--status", "MAP_FA=256"],
+    &["--status", "MAP_FA="],
+    &["--status", "NOPE=1"],
+    &["--timeout"],
+    &["--timeout", "0x1000"],
+    &["--timeout", ""],
+    &["--trace=1"],
+    &["--picture"],
+    &["--picture", ""],
+    &["--imm"],
+    &["--imm", ""],
+    &["--imm", "CLOSE_PORT,x"],
+    &["--imm", "CLOSE_PORT,0x100000000"],
+    &["--imm", "CLOSE_PORT/256"],
+    &["--imm", "CLOSE_PORT,1,2,3"],
+    &["--with-in", "SET_PORT,1,abc"],
+    &["--with-in", "SET_PORT,1,zz"],
+    &["--with-out", "QUERY_PORT,1,00"],
+    &["--in-out", "NOPE"],
+    &["--lend", "-1"],
+    &["--undo"],
+    &["--undo-to", "one"],
+    &["--quiesce=1"],
+    &["--seed", "1", "--seed", "2"],
+    &["--trace", "--trace"],
+    &["--picture", "-", "--picture=-"],
+    &["--picture", "--trace"],
+    &["--seed", "+1"],
+    &["--undo-to", ""],
+    &["--lend", "0xg"],
+];
+
 #[test]
 fn bad_options_are_one_line_and_2() {
-    let bad: [&[&str]; 36] = [
-        &["--nope"],
-        &["extra"],
-        &["--seed"],
-        &["--seed", "-1"],
-        &["--seed", "0x"],
-        &["--seed", "18446744073709551616"],
-        &["--fail"],
-        &["--fail", "0"],
-        &["--fail", "x"],
-        &["--fail", "3:later"],
-        &["--fail", ":taken"],
-        &["--status"],
-        &["--status", "MAP_FA"],
-        &["--status", "MAP_FA=256"],
-        &["--status", "MAP_FA="],
-        &["--status", "NOPE=1"],
-        &["--timeout"],
-        &["--timeout", "0x1000"],
-        &["--timeout", ""],
-        &["--trace=1"],
-        &["--picture"],
-        &["--picture", ""],
-        &["--imm"],
-        &["--imm", ""],
-        &["--imm", "CLOSE_PORT,x"],
-        &["--imm", "CLOSE_PORT,0x100000000"],
-        &["--imm", "CLOSE_PORT/256"],
-        &["--imm", "CLOSE_PORT,1,2,3"],
-        &["--with-in", "SET_PORT,1,abc"],
-        &["--with-in", "SET_PORT,1,zz"],
-        &["--with-out", "QUERY_PORT,1,00"],
-        &["--in-out", "NOPE"],
-        &["--lend", "-1"],
-        &["--undo"],
-        &["--undo-to", "one"],
-        &["--quiesce=1"],
-    ];
-    for args in bad {
+    for args in BAD {
         let (code, out, err) = ran(args);
         assert_eq!((code, out.as_str()), (2, ""), "{args:?}");
         assert!(err.starts_with("station: ") && err.lines().count() == 1, "{args:?}: {err}");
+    }
+}
+
+/// What is wrong is said, with the text that is wrong.
+#[test]
+fn bad_options_are_told_apart() {
+    let told: [(&[&str], &str); 19] = [
+        (&["--nope"], "no such option: --nope"),
+        (&["extra"], "no such option: extra"),
+        (&["--seed"], "--seed needs a value"),
+        (&["--seed", "--trace"], "--seed needs a value, and --trace is an option"),
+        (&["--picture", "--trace"], "--picture needs a value, and --trace is an option"),
+        (&["--seed", "12x"], "--seed: not a number: 12x"),
+        (&["--seed", "18446744073709551616"], "--seed: too large, 2^64 or more: 18446744073709551616"),
+        (&["--seed", "1", "--seed=2"], "--seed is given twice"),
+        (&["--trace", "--trace"], "--trace is given twice"),
+        (&["--trace=1"], "--trace takes no value"),
+        (&["--fail", "0"], "--fail: calls are counted from 1"),
+        (&["--status", "MAP_FA"], "--status: not OP=S: MAP_FA"),
+        (&["--status", "MAP_FA=256"], "--status: a status is below 256, not 256"),
+        (&["--status", "MAP_FA="], "--status: a number is missing"),
+        (&["--status", "=1"], "--status: a command is missing"),
+        (&["--timeout", ""], "--timeout: a command is missing"),
+        (&["--timeout", "RUN"], "--timeout: no such command: RUN"),
+        (&["--timeout", "0x1000"], "--timeout: an opcode is below 0x1000, not 0x1000"),
+        (&["--imm", "CLOSE_PORT,4294967296"], "--imm: an input modifier is too large"),
+    ];
+    for (args, why) in told {
+        assert_eq!(ran(args), (2, String::new(), format!("station: {why} (--help says more)\n")), "{args:?}");
+    }
+    assert_eq!(ran(&["--seed=18446744073709551615"]).2, "");
+}
+
+/// A reader who has gone away is no fault of the program's.
+#[test]
+fn a_closed_pipe_is_no_panic() {
+    for args in [&["--help"][..], &["--trace"]] {
+        let (reader, writer) = std::io::pipe().expect("a pipe");
+        drop(reader);
+        let run = Command::new(env!("CARGO_BIN_EXE_station")).args(args).stdout(writer).output();
+        let Output { status, stderr, .. } = run.expect("the program runs");
+        assert_eq!((status.code(), String::from_utf8_lossy(&stderr).as_ref()), (Some(1), ""), "{args:?}");
     }
 }
 
@@ -287,7 +338,9 @@ fn a_picture_as_svg() {
 fn a_picture_of_text() {
     let cmpt =
         "cMPT              0 |#.........#.........#.........#.........|     4 GiB, 20 pages mapped in 4 ranges\n";
-    says(&["--picture", "-"], 0, &["ICM layout: 11 tables, 4 GiB", cmpt, "1 page mapped\n"]);
+    let rdmarc = "RDMARC    100000000 |###############|                            512 KiB, 128 pages mapped\n";
+    let mtt = "MTT       100120000 |#|                                            4 KiB, 1 page mapped\n";
+    says(&["--picture", "-"], 0, &["ICM layout: 11 tables, 4 GiB", cmpt, rdmarc, mtt]);
 }
 
 #[test]

@@ -1,5 +1,6 @@
 //! Stand-in for the `uefi` crate: exactly the names that fw.rs, hcr.rs,
-//! dma.rs, bars.rs and pci.rs use, and the hook behind `boot`.
+//! dma.rs, bars.rs and pci.rs use, those that `shell/loader` uses, and the
+//! hook behind `boot`.
 
 pub mod boot;
 

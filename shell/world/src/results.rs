@@ -134,6 +134,34 @@ pub struct Port {
     pub xcvr_code: u64,
 }
 
+/// A result with the fields of the same names that another value has.
+#[macro_export]
+macro_rules! result_of {
+    ($of:expr, $kind:ident: $($field:ident)*) => {{
+        let of = $of;
+        $crate::results::$kind { $($field: of.$field),* }
+    }};
+}
+
+/// The capabilities of a value that has them under the same names.
+#[macro_export]
+macro_rules! capabilities_of {
+    ($of:expr) => {
+        $crate::result_of!($of, Capabilities:
+            rsvd_qps rsvd_srqs rsvd_cqs rsvd_eqs max_eqs rsvd_mtts rsvd_mpts rsvd_uars rsvd_pds log_max_qp_wqes log_max_cqes
+            num_sys_eqs ports flags flags2 bmme eth_prot_ctrl eth_backpl_an_rep uar_bytes entry max_icm)
+    };
+}
+
+/// The port of a value that has it under the same names.
+#[macro_export]
+macro_rules! port_of {
+    ($of:expr) => {
+        $crate::result_of!($of, Port:
+            num link_up b0 mtu_cap log_macs mac autoneg an_complete speed xcvr wavelength xcvr_code)
+    };
+}
+
 /// A good opening.
 #[derive(Clone, PartialEq, Eq, Debug)]
 pub struct Opened {

@@ -8,7 +8,7 @@ use compare::sessions::cases;
 use compare::sessions::over::Over;
 use session::abi;
 use session::ffi::{self, Called, Lent, Reader};
-use session::{Question, Session, Undo, UndoList};
+use session::{Call, Question, Session, Undo, UndoList};
 use world::World;
 
 /// So much is filled, in words.
@@ -101,12 +101,12 @@ fn measured() -> Most {
         let mut records = [Undo::default()];
         let (mut s, mut undo) = (Box::new(Session::new()), UndoList::new(&mut records));
         most.note("hca_call, open", call(&s, &undo, &mut |l| ffi::call(l, Called::OPEN)));
-        let first = s.begin_open(&mut undo).expect("a fresh session");
+        let first = s.begin(Call::Open, &mut undo).expect("a fresh session");
         answers(&mut most, &mut s, &mut bus, &mut undo, first);
         undo.push(Undo { op: 0x20, ..Undo::default() }).expect("room");
         readers(&mut most, &s);
         most.note("hca_call, close", call(&s, &undo, &mut |l| ffi::call(l, Called::CLOSE)));
-        let first = s.begin_close(&mut undo).expect("an open session");
+        let first = s.begin(Call::Close, &mut undo).expect("an open session");
         answers(&mut most, &mut s, &mut bus, &mut undo, first);
         readers(&mut most, &s);
     }

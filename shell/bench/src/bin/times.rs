@@ -1,14 +1,14 @@
 //! How long an opening, a close and a Timeout take over one world, the bus included, by the Rust and by the session.
 //!
-//! times [COUNT]      the middle one of so many runs each; 200 if left out
+//! `times [COUNT]`      the middle one of so many runs each; 200 if left out
 
 use std::cell::RefCell;
 use std::rc::Rc;
 use std::time::{Duration, Instant};
 
-use compare::sessions::over::Over;
 use oracle::run::{self, Driver};
 use session::{Session, UndoList};
+use station::over::Over;
 use world::plan::{Behaviour, Plan, Which, NEVER};
 use world::registers::QUERY_FW;
 use world::World;

@@ -192,7 +192,8 @@ impl Pool {
     pub fn new(r: &mut Prng) -> Pool {
         let mut all = cases::chosen();
         let mut full = all[1].clone();
-        full.calls = [&[Call::Open], &vec![Call::Lend { bytes: 1 }; abi::LENT_BUFFERS][..]].concat();
+        full.calls = vec![Call::Open];
+        full.calls.extend((0..abi::LENT_BUFFERS).map(|_| Call::Lend { bytes: 1 }));
         all.push(full);
         all.extend((0..SEEDS).map(|_| cases::seeded(r.next_u64())));
         let mut stops = Vec::new();

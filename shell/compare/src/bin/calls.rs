@@ -1,13 +1,14 @@
 //! The long run of lists of calls beside the Rust.
 //!
-//! calls [--seed FIRST] [--count COUNT] [--each]      so many lists from that seed on; 0 and 200,000 if left out. With --each
-//! every list is also run with each single bus call behind its opening failed in turn, taken and not
+//! `calls [--seed FIRST] [--count COUNT] [--each]`      so many lists from that seed on; 0 and 200,000 if left out. With
+//! --each every list is also run with each single bus call behind its opening failed in turn, taken and not
 
 use std::collections::BTreeMap;
 use std::process::ExitCode;
 
 use compare::calls::beside::{same, Ran, Run};
 use compare::calls::cases::{self, Case};
+use compare::program;
 use world::calls::Call;
 use world::results::{Given, Refusal};
 
@@ -99,8 +100,7 @@ fn options() -> Option<(u64, u64, bool)> {
 
 fn main() -> ExitCode {
     let Some((first, count, each)) = options() else {
-        eprintln!("{USAGE}");
-        return ExitCode::from(2);
+        return program::misused(USAGE);
     };
     let (mut seed, mut lists, mut figures) = (first, 0, Figures::default());
     while lists < count {
@@ -124,9 +124,5 @@ fn main() -> ExitCode {
         "{lists} lists of {} seeds from {first} on, {failed} more with a call failed; {calls} calls; {differ} differ",
         seed - first
     );
-    if differ == 0 {
-        ExitCode::SUCCESS
-    } else {
-        ExitCode::FAILURE
-    }
+    program::ended(differ)
 }

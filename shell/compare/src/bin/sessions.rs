@@ -1,12 +1,15 @@
 //! The long run of whole sessions beside the Rust.
 //!
-//! sessions [FIRST [COUNT]]      so many seeds from the first on; 0 and 200,000 if left out
+//! `sessions [FIRST [COUNT]]`      so many seeds from the first on; 0 and 200,000 if left out
 
 use std::collections::BTreeMap;
 use std::process::ExitCode;
 
+use compare::program;
 use compare::sessions::beside::{same, Ran};
 use compare::sessions::cases;
+
+const USAGE: &str = "sessions [FIRST [COUNT]]";
 
 /// How a session ended, for the count of ends.
 fn end(ran: &Ran) -> String {
@@ -18,11 +21,8 @@ fn end(ran: &Ran) -> String {
 }
 
 fn main() -> ExitCode {
-    let args: Vec<String> = std::env::args().skip(1).collect();
-    let number = |at: usize, usual: u64| args.get(at).map_or(Ok(usual), |a| a.parse());
-    let (Ok(first), Ok(count)) = (number(0, 0), number(1, 200_000)) else {
-        eprintln!("sessions [FIRST [COUNT]]");
-        return ExitCode::FAILURE;
+    let Some([first, count]) = program::numbers([0, 200_000]) else {
+        return program::misused(USAGE);
     };
     let (mut seed, mut compared, mut differ) = (first, 0, 0);
     let mut ends: BTreeMap<String, u64> = BTreeMap::new();
@@ -43,9 +43,5 @@ fn main() -> ExitCode {
     }
     ends.iter().for_each(|(end, n)| println!("{end}: {n}"));
     println!("{compared} sessions of {} seeds from {first} on, {differ} differ", seed - first);
-    if differ == 0 {
-        ExitCode::SUCCESS
-    } else {
-        ExitCode::FAILURE
-    }
+    program::ended(differ)
 }

@@ -14,7 +14,7 @@ use world::{Holdings, World};
 
 use super::cases::Case;
 use super::told;
-use crate::sessions::beside::{books_fit, mailbox, Difference, STALE};
+use crate::sessions::beside::{books_fit, mailbox, Difference, Parts, STALE};
 use crate::sessions::glimpse::{Glimpse, Notes};
 use crate::sessions::over::Over;
 use crate::sessions::told::{record, state};
@@ -167,8 +167,7 @@ pub fn ours(case: &Case) -> Run {
     Run { books, seen: seen_at.split_off(1), ..ended(&mut bus, first, steps) }
 }
 
-/// The parts of a run as text.
-fn parts(case: &Case, ran: &Ran) -> Vec<(String, String)> {
+fn parts(case: &Case, ran: &Ran) -> Parts {
     let mut all = Vec::new();
     for (n, (step, call)) in ran.steps.iter().zip(&case.calls).enumerate() {
         let mut part = |name: &str, text: String| all.push((format!("call {n} {}, {name}", short(call)), text));
@@ -194,25 +193,13 @@ fn short(call: &Call) -> String {
     }
 }
 
-/// The first line that differs, in the first part that does.
-fn first_difference(case: &Case, rust: &Ran, ours: &Ran) -> Difference {
-    let (rust, ours) = (parts(case, rust), parts(case, ours));
-    let nothing = (String::from("no more calls"), String::new());
-    let pair = |i: usize| (rust.get(i).unwrap_or(&nothing), ours.get(i).unwrap_or(&nothing));
-    let (a, b) = (0..rust.len().max(ours.len())).map(pair).find(|(a, b)| a != b).expect("a difference");
-    Difference::of_text(&case.name, &a.0, &a.1, &b.1)
-}
-
 /// Compares two runs of one list.
 pub fn differ(case: &Case, rust: &Ran, mut session: Run) -> Result<(), Box<Difference>> {
     let both = session.ran.steps.iter_mut().zip(&rust.steps);
     for ((ours, rust), _) in both.zip(&session.seen).filter(|(_, seen)| !**seen) {
         ours.outbox.clone_from(&rust.outbox);
     }
-    if *rust == session.ran {
-        return Ok(());
-    }
-    Err(Box::new(first_difference(case, rust, &session.ran)))
+    Difference::of_runs(&case.name, rust, &session.ran, |ran| parts(case, ran))
 }
 
 /// Compares one list: the Rust's run, or nothing outside the domain.

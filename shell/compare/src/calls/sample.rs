@@ -2,7 +2,7 @@
 
 use world::calls::{Call, Form};
 use world::plan::{Behaviour, OddMap};
-use world::registers::{BAR_DCS, GO_WRITE, OWNER};
+use world::registers::{GO_WRITE, OWNER};
 use world::trace::Event;
 
 use super::beside::{rust, rust_noted, Run, Step};
@@ -11,6 +11,7 @@ use super::stored::record;
 use crate::machines::records::Record;
 use crate::sessions;
 use crate::sessions::cases::{obedient, STATUSES};
+use crate::sessions::sample::{read, written};
 
 /// So many lists by seed, of those with fewer lines of bus calls and bytes of input.
 const SEEDED: usize = 8;
@@ -31,14 +32,6 @@ fn at(case: &Case, call: usize, n: usize, fits: impl Fn(&Event) -> bool) -> u64 
     let before: usize = run.steps[1..call].iter().map(|s| events(s).len()).sum();
     let within = events(&run.steps[call]).into_iter().zip(before as u64..).filter(|(e, _)| fits(e)).nth(n);
     within.expect("such a bus call").1
-}
-
-fn written(at: u64) -> impl Fn(&Event) -> bool {
-    move |e| matches!(e, Event::RegisterWrite { bar: BAR_DCS, offset, .. } if *offset == at)
-}
-
-fn read(at: u64) -> impl Fn(&Event) -> bool {
-    move |e| matches!(e, Event::RegisterRead { bar: BAR_DCS, offset, .. } if *offset == at)
 }
 
 /// Client commands in each of which another bus call fails; the next one is posted still. In the second list the command dword is

@@ -130,9 +130,29 @@ pub struct Difference {
     pub session: String,
 }
 
+/// The parts of a run by name, as text.
+pub(crate) type Parts = Vec<(String, String)>;
+
 impl Difference {
+    /// Of two runs, the first line that differs in the first part that does; nothing where they are the same.
+    pub(crate) fn of_runs<R: PartialEq>(
+        case: &str,
+        rust: &R,
+        session: &R,
+        parts: impl Fn(&R) -> Parts,
+    ) -> Result<(), Box<Difference>> {
+        if rust == session {
+            return Ok(());
+        }
+        let (rust, session) = (parts(rust), parts(session));
+        let nothing = (String::from("no more calls"), String::new());
+        let pair = |i: usize| (rust.get(i).unwrap_or(&nothing), session.get(i).unwrap_or(&nothing));
+        let (a, b) = (0..rust.len().max(session.len())).map(pair).find(|(a, b)| a != b).expect("a difference");
+        Err(Box::new(Difference::of_text(case, &a.0, &a.1, &b.1)))
+    }
+
     /// Of two texts that differ, the first line that does.
-    pub(crate) fn of_text(case: &str, part: &str, rust: &str, session: &str) -> Difference {
+    fn of_text(case: &str, part: &str, rust: &str, session: &str) -> Difference {
         let (a, b): (Vec<&str>, Vec<&str>) = (rust.lines().collect(), session.lines().collect());
         let at = (0..a.len().max(b.len())).find(|i| a.get(*i) != b.get(*i)).unwrap_or(0);
         let line = |all: &[&str]| all.get(at).map_or("nothing", |l| *l).to_string();
@@ -148,9 +168,8 @@ impl fmt::Display for Difference {
     }
 }
 
-/// The parts of a run as text.
-fn parts(ran: &Ran) -> [(&'static str, String); 9] {
-    [
+fn parts(ran: &Ran) -> Parts {
+    let all = [
         ("opening", ran.opening.folded()),
         ("opened", format!("{:#?}", ran.opened)),
         ("state", format!("{:#?}", ran.state)),
@@ -160,14 +179,8 @@ fn parts(ran: &Ran) -> [(&'static str, String); 9] {
         ("outbox", format!("{:02x?}", ran.outbox)),
         ("holdings", format!("{:#?}", ran.holdings)),
         ("misuse", format!("{:?}", ran.misuse)),
-    ]
-}
-
-/// The first line that differs, in the first part that does.
-fn first_difference(case: &Case, rust: &Ran, ours: &Ran) -> Difference {
-    let both = parts(rust).into_iter().zip(parts(ours));
-    let ((part, a), (_, b)) = both.into_iter().find(|(a, b)| a != b).expect("a difference");
-    Difference::of_text(&case.name, part, &a, &b)
+    ];
+    all.map(|(name, text)| (name.into(), text)).into()
 }
 
 /// Compares two runs of one case. An outbox that the card may have written behind the session's back, once a command's
@@ -176,10 +189,7 @@ pub fn differ(case: &Case, rust: &Ran, mut session: Run) -> Result<(), Box<Diffe
     if !session.seen {
         session.ran.outbox.clone_from(&rust.outbox);
     }
-    if *rust == session.ran {
-        return Ok(());
-    }
-    Err(Box::new(first_difference(case, rust, &session.ran)))
+    Difference::of_runs(&case.name, rust, &session.ran, parts)
 }
 
 /// Compares one case: its runs, or nothing outside the domain.

@@ -36,11 +36,13 @@ fn failing(fits: impl Fn(&Event) -> bool, taken: bool) -> Case {
     failing_at(0, fits, taken)
 }
 
-fn written(at: u64) -> impl Fn(&Event) -> bool {
+/// A write of the register at that offset of the first BAR.
+pub(crate) fn written(at: u64) -> impl Fn(&Event) -> bool {
     move |e| matches!(e, Event::RegisterWrite { bar: BAR_DCS, offset, .. } if *offset == at)
 }
 
-fn read(at: u64) -> impl Fn(&Event) -> bool {
+/// A read there.
+pub(crate) fn read(at: u64) -> impl Fn(&Event) -> bool {
     move |e| matches!(e, Event::RegisterRead { bar: BAR_DCS, offset, .. } if *offset == at)
 }
 

@@ -2,10 +2,7 @@
 
 use session::{Books, Outcome, Setup, UndoList};
 use world::bus::Handle;
-use world::results::{Buffer, Capabilities, Closing, Layout, Opened, Port, Refusal, State, Table, Undo};
-
-/// The range of the MTT table among the fourteen.
-const MTT: usize = 5;
+use world::results::{Buffer, Closing, Layout, Opened, Refusal, State, Table, Undo};
 
 pub fn closing(c: session::Closing) -> Closing {
     match c {
@@ -36,50 +33,6 @@ pub fn refusal(outcome: Outcome) -> Option<Refusal> {
     }
 }
 
-fn capabilities(s: &Setup) -> Capabilities {
-    let c = &s.cap;
-    Capabilities {
-        rsvd_qps: c.rsvd_qps,
-        rsvd_srqs: c.rsvd_srqs,
-        rsvd_cqs: c.rsvd_cqs,
-        rsvd_eqs: c.rsvd_eqs,
-        max_eqs: c.max_eqs,
-        rsvd_mtts: c.rsvd_mtts,
-        rsvd_mpts: c.rsvd_mpts,
-        rsvd_uars: c.rsvd_uars,
-        rsvd_pds: c.rsvd_pds,
-        log_max_qp_wqes: c.log_max_qp_wqes,
-        log_max_cqes: c.log_max_cqes,
-        num_sys_eqs: c.num_sys_eqs,
-        ports: c.ports,
-        flags: c.flags,
-        flags2: c.flags2,
-        bmme: c.bmme,
-        eth_prot_ctrl: c.eth_prot_ctrl,
-        eth_backpl_an_rep: c.eth_backpl_an_rep,
-        uar_bytes: c.uar_bytes,
-        entry: c.entry,
-        max_icm: c.max_icm,
-    }
-}
-
-fn port(p: &session::Port) -> Port {
-    Port {
-        num: p.num,
-        link_up: p.link_up,
-        b0: p.b0,
-        mtu_cap: p.mtu_cap,
-        log_macs: p.log_macs,
-        mac: p.mac,
-        autoneg: p.autoneg,
-        an_complete: p.an_complete,
-        speed: p.speed,
-        xcvr: p.xcvr,
-        wavelength: p.wavelength,
-        xcvr_code: p.xcvr_code,
-    }
-}
-
 /// By index; they are told in the order of their bases.
 fn layout(s: &Setup) -> Layout {
     assert!(s.tables.is_sorted_by_key(|t| t.base), "tables in the order of their bases");
@@ -92,9 +45,9 @@ fn layout(s: &Setup) -> Layout {
 
 pub fn opened(s: &Setup) -> Opened {
     Opened {
-        cap: capabilities(s),
+        cap: world::capabilities_of!(&s.cap),
         layout: layout(s),
-        ports: s.ports().iter().map(port).collect(),
+        ports: s.ports().iter().map(|p| world::port_of!(p)).collect(),
         rev3: s.rev3,
         uar_bar: s.uar.index,
         uar_size: s.uar.length,
@@ -120,7 +73,7 @@ pub fn state(b: &Books, undo: &UndoList) -> State {
         fa: b.fa.map(buffer),
         aux: b.aux.map(buffer),
         icm: b.ranges().iter().map(|r| (r.virt, buffer(r.buffer))).collect(),
-        mtt: (b.ranges().len() > MTT).then_some(MTT),
+        mtt: b.mtt_mem().and_then(|m| b.ranges().iter().position(|r| r.buffer == m)),
         lent: b.lent().iter().copied().map(buffer).collect(),
         undo: undo.records().iter().map(record).collect(),
     }

@@ -1,9 +1,11 @@
-//! What the tests of refused calls share: what is lent, in copies.
-#![allow(dead_code)]
+//! What the tests of document 01 alone share: what is lent, in copies, and a list that changes while a call runs.
 
+use compare::sessions::over::Over;
 use session::abi::{self, UNDO_RECORDS};
 use session::ffi::Lent;
-use session::{Session, Undo};
+use session::{Call, Question, Session, Undo, UndoList};
+use world::traced::Traced;
+use world::World;
 
 /// What is lent to a call, in copies.
 #[derive(Clone, PartialEq, Eq, Debug)]
@@ -59,4 +61,25 @@ pub fn short(copies: &Copies) -> Vec<(&'static str, Copies)> {
         ("no undo list", with(&|c| (c.count, c.undo) = (1, Vec::new()))),
         ("very many undo records", with(&|c| c.count = usize::MAX)),
     ]
+}
+
+/// Makes a call and answers its questions. The list is changed once, at the first stop behind the command `op`.
+pub fn changing(
+    session: &mut Session,
+    call: Call,
+    bus: &mut Traced<World>,
+    undo: &mut UndoList,
+    op: u16,
+    change: &dyn Fn(&mut UndoList),
+) {
+    let mut question = session.begin(call, undo).expect("an open session");
+    let (mut list, mut changed) = ([0; 64], false);
+    while question != Question::Finished {
+        let answer = session.ask(&mut Over::new(bus), &mut list);
+        if !changed && bus.trace.posts().any(|p| p.op == op) {
+            changed = true;
+            change(undo);
+        }
+        question = session.answer(answer, undo).expect("an answer that suits");
+    }
 }
