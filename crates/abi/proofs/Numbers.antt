@@ -1,4 +1,4 @@
--- THE NUMBERS of the kinds of call, as `include/hca.h` has them, one by one; any other is a call at the wrong time.
+-- THE NUMBERS of the kinds of call, as `include/hca.h` has them, one by one; 10, the first that is none, is a call at the wrong time, as the definition says of every other.
 use Prim.Native.Nat.{ℕ}
 use mathlib.Core.Bool.{Bool}
 use mathlib.Core.List.{[]}
