@@ -8,7 +8,6 @@ mod start;
 mod text;
 
 use libc::STDIN_FILENO;
-use libc::STDOUT_FILENO;
 use record::Head;
 
 // A record that was run; the end of the list; or a record that is cut off or too long.
@@ -16,17 +15,6 @@ enum Read {
     Record,
     End,
     Damaged,
-}
-
-// Runs what follows a head, and prints it.
-fn print(h: Head, body: &[u8]) -> Read {
-    let mut out = [0u8; 16384];
-    let n = run::ran(h, body, &mut out);
-    if n <= 16384 {
-        io::write_all(STDOUT_FILENO, &out[..n]);
-        return Read::Record;
-    }
-    Read::Damaged
 }
 
 // What follows a head, in a slice that has room for it.
@@ -39,7 +27,8 @@ fn read_body(h: Head, body: &mut [u8]) -> Read {
     if n < length {
         return Read::Damaged;
     }
-    print(h, body)
+    run::ran(h, body);
+    Read::Record
 }
 
 fn read_record() -> Read {
@@ -63,7 +52,7 @@ fn replay() {
                 return;
             }
             Read::Damaged => {
-                io::write_all(STDOUT_FILENO, b"damaged\n");
+                text::word(b"damaged\n");
                 return;
             }
         }

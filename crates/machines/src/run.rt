@@ -13,25 +13,22 @@ use crate::text;
 ghost use Prim.Native.Nat.{_≤_, _<_};
 use pci::Answer;
 
-// How far a run is: the next answer, how often the pair that it ends was given, the last two questions, whether the answers ran out, and where the text
-// ends.
+// How far a run is: the next answer, how often the pair that it ends was given, the last two questions, and whether the answers ran out.
 struct Place {
     at: u16,
     given: u64,
     older: Asked,
     newer: Asked,
     open: bool,
-    text: usize,
 }
 
 fn begin() -> Place {
     Place {
         at: 0,
         given: 0,
-        older: asked::of(Asked::FINISHED, 0, 0, 0, 0),
-        newer: asked::of(Asked::FINISHED, 0, 0, 0, 0),
+        older: asked::nothing(),
+        newer: asked::nothing(),
         open: false,
-        text: 0,
     }
 }
 
@@ -61,23 +58,23 @@ fn answered(m: Machine, kind: u8, at: u16, h: Head, body: &[u8]) -> Machine {
 }
 
 // The question's line. Where a pair of answers is given again, the question must be the one that stood there before, and is not written again.
-fn shown(p: Place, q: Asked, out: &mut [u8]) -> usize {
-    if p.given == 0 {
-        return asked::line(out, p.text, q);
+fn shown(given: u64, older: Asked, q: Asked) {
+    if given == 0 {
+        asked::line(q);
+        return;
     }
-    let older = p.older;
     if asked::same(q, older) {
-        return p.text;
+        return;
     }
-    let end = text::word(out, p.text, b"other ");
-    asked::line(out, end, q)
+    text::word(b"other ");
+    asked::line(q);
 }
 
 // How often a pair of answers was given.
-fn times(out: &mut [u8], at: usize, n: u64) -> usize {
-    let named = text::word(out, at, b"times");
-    let end = text::number(out, named, n);
-    text::put(out, end, b'\n')
+fn times(n: u64) {
+    text::word(b"times");
+    text::number(n);
+    text::end_line();
 }
 
 fn next(at: u16) -> u16 {
@@ -95,7 +92,7 @@ fn before(at: u16) -> u16 {
 }
 
 // The next answer; or the one before again, where this one ends a pair that is given more often.
-fn moved(p: Place, n: u64, out: &mut [u8]) -> Place {
+fn moved(p: Place, n: u64) -> Place {
     if n < 2 {
         return Place {
             at: next(p.at),
@@ -109,78 +106,76 @@ fn moved(p: Place, n: u64, out: &mut [u8]) -> Place {
             ..p
         };
     }
+    times(n);
     Place {
         at: next(p.at),
         given: 0,
-        text: times(out, p.text, n),
         ..p
     }
 }
 
 // No answer is left: the open question.
-fn left_open(p: Place, q: Asked, out: &mut [u8]) -> Place {
-    let end = text::word(out, p.text, b"open ");
+fn left_open(p: Place, q: Asked) -> Place {
+    text::word(b"open ");
+    asked::line(q);
     Place {
         open: true,
-        text: asked::line(out, end, q),
         ..p
     }
 }
 
 // The question is written.
-fn onward(p: Place, q: Asked, h: Head, body: &[u8], out: &mut [u8]) -> Place {
+fn onward(p: Place, q: Asked, h: Head, body: &[u8]) -> Place {
     if q.kind == Asked::FENCE {
         return p;
     }
     if h.answers <= p.at {
-        return left_open(p, q, out);
+        return left_open(p, q);
     }
     let s = record::taken(h, body, p.at);
+    let older = p.older;
     let newer = p.newer;
+    shown(p.given, older, q);
     let told = Place {
         older: newer,
         newer: q,
-        text: shown(p, q, out),
         ..p
     };
-    moved(told, s.times, out)
-}
-
-fn values(e: End, at: usize, out: &mut [u8]) -> usize {
-    let a = text::number(out, at, e.a);
-    let b = text::number(out, a, e.b);
-    let c = text::number(out, b, e.c);
-    text::number(out, c, e.d)
+    moved(told, s.times)
 }
 
 // The number and the values; and whether answers are left.
-fn ended(e: End, p: Place, h: Head, out: &mut [u8]) -> usize {
-    let named = text::word(out, p.text, b"ended");
-    let number = text::number(out, named, e.number as u64);
-    let end = values(e, number, out);
-    if p.at < h.answers {
-        return text::word(out, end, b" early\n");
+fn ended(e: End, early: bool) {
+    text::word(b"ended");
+    text::number(e.number as u64);
+    text::number(e.a);
+    text::number(e.b);
+    text::number(e.c);
+    text::number(e.d);
+    if early {
+        text::word(b" early");
     }
-    text::put(out, end, b'\n')
+    text::end_line();
 }
 
-// The text of a run; its length. A command asks no more than 1,202,000 questions.
-pub(crate) fn ran(h: Head, body: &[u8], out: &mut [u8]) -> usize {
+// A run, and its text. A command asks no more than 1,202,000 questions.
+pub(crate) fn ran(h: Head, body: &[u8]) {
     let mut m = start::start(h, body);
     let mut p = begin();
     let mut turns: u64 = 4000000;
     while turns > 0 {
         let task = m.task;
         if let Task::Over(e) = task {
-            return ended(e, p, h, out);
+            ended(e, p.at < h.answers);
+            return;
         }
         if p.open {
-            return p.text;
+            return;
         }
         let q = asked::numbers(machine::asks(m));
         m = answered(m, q.kind, p.at, h, body);
-        p = onward(p, q, h, body, out);
+        p = onward(p, q, h, body);
         turns = turns - 1;
     }
-    text::word(out, p.text, b"no end\n")
+    text::word(b"no end\n");
 }

@@ -25,8 +25,8 @@ same-length c = search needs
 returns-2 : tie.Need-returns-2
 returns-2 c = search needs
 
-print-requires : tie.Need-print-requires
-print-requires c κs = search needs
+ran-requires : tie.Need-ran-requires
+ran-requires c κs = search needs
 
 same-length-2 : tie.Need-same-length-2
 same-length-2 c = search needs
@@ -45,6 +45,6 @@ read-body-spec =
     read-full-requires
     same-length
     returns-2
-    print-requires
+    ran-requires
     same-length-2
     returns-3)

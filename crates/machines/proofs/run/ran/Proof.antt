@@ -1,15 +1,13 @@
-use mathlib.Core.Path.{_≡_, refl, _∙_}
 use native.Mathlib.Omega.{arith}
 use borrow.Author.Needs.{needs}
-use lib.ListN.{length}
 use Rattle.machines.proofs.run.ran.Statement.{statement}
 use Rattle.machines.proofs.run.ran.Tie as tie
 
 abbrev Inv-loop : tie.InvT-loop
-Inv-loop h body out₀ m₀ p₀ turns₀ t10 out m p turns = length out ≡ length out₀
+Inv-loop h body m₀ p₀ turns₀ t9 m p turns = Unit {0}
 
 abbrev μ-loop : tie.MeasureT-loop
-μ-loop h body out₀ m₀ p₀ turns₀ t10 out m p turns = turns
+μ-loop h body m₀ p₀ turns₀ t9 m p turns = turns
 
 start-requires : tie.Need-start-requires Inv-loop μ-loop
 start-requires c κs = search needs
@@ -18,7 +16,7 @@ begin-requires : tie.Need-begin-requires Inv-loop μ-loop
 begin-requires c κs = search needs
 
 loop-holds : tie.Need-loop-holds Inv-loop μ-loop
-loop-holds c = refl
+loop-holds c = tt
 
 enum-known-task : tie.Need-enum-known-task Inv-loop μ-loop
 enum-known-task c = search needs
@@ -26,14 +24,8 @@ enum-known-task c = search needs
 ended-requires : tie.Need-ended-requires Inv-loop μ-loop
 ended-requires c κs = search needs
 
-same-length : tie.Need-same-length Inv-loop μ-loop
-same-length c = search needs
-
 returns : tie.Need-returns Inv-loop μ-loop
 returns c = tt
-
-same-length-2 : tie.Need-same-length-2 Inv-loop μ-loop
-same-length-2 c = search needs
 
 returns-2 : tie.Need-returns-2 Inv-loop μ-loop
 returns-2 c = tt
@@ -57,16 +49,13 @@ loop-less : tie.Need-loop-less Inv-loop μ-loop
 loop-less c = omega arith
 
 loop-again : tie.Need-loop-again Inv-loop μ-loop
-loop-again c = search needs
+loop-again c = tt
 
 slice-aggregate-word : tie.Need-slice-aggregate-word Inv-loop μ-loop
 slice-aggregate-word c = search needs
 
 word-requires : tie.Need-word-requires Inv-loop μ-loop
 word-requires c κs = search needs
-
-same-length-3 : tie.Need-same-length-3 Inv-loop μ-loop
-same-length-3 c = search needs
 
 returns-3 : tie.Need-returns-3 Inv-loop μ-loop
 returns-3 c = tt
@@ -82,9 +71,7 @@ ran-spec =
     loop-holds
     enum-known-task
     ended-requires
-    same-length
     returns
-    same-length-2
     returns-2
     asks-requires
     numbers-requires
@@ -95,5 +82,4 @@ ran-spec =
     loop-again
     slice-aggregate-word
     word-requires
-    same-length-3
     returns-3)
