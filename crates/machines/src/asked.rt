@@ -18,12 +18,7 @@ impl Asked {
 }
 
 fn of(kind: u8, a: u64, b: u64, c: u64) -> Asked {
-    Asked {
-        kind,
-        a,
-        b,
-        c,
-    }
+    Asked { kind, a, b, c }
 }
 
 pub(crate) fn nothing() -> Asked {
@@ -64,7 +59,23 @@ pub(crate) fn same(x: Asked, y: Asked) -> bool {
 }
 
 // Where the name of each kind starts, one behind the other in the text below; and how many values each kind has. A fence is not written.
-const STARTS: [usize; 15] = [0, 13, 26, 40, 54, 62, 71, 81, 89, 94, 102, 105, 110, 114, 122];
+const STARTS: [usize; 15] = [
+    0,
+    13,
+    26,
+    40,
+    54,
+    62,
+    71,
+    81,
+    89,
+    94,
+    102,
+    105,
+    110,
+    114,
+    122,
+];
 
 const VALUES: [u64; 14] = [1, 1, 2, 2, 2, 3, 2, 1, 1, 1, 2, 1, 2, 0];
 

@@ -118,10 +118,7 @@ fn moved(p: Place, n: u64) -> Place {
 fn left_open(p: Place, q: Asked) -> Place {
     text::word(b"open ");
     asked::line(q);
-    Place {
-        open: true,
-        ..p
-    }
+    Place { open: true, ..p }
 }
 
 // The question is written.
