@@ -13,7 +13,7 @@ use Rattle.words_session.specs.declared.Kept.the-variants as k
 use Rattle.words_session.specs.declared.Decoded.{Decoded}
 use Rattle.session.specs.declared.Session.{Session}
 use Rattle.fw_plan.specs.declared.Turn.{Turn}
-use Rattle.abi.specs.Turns.{After, taken, turned, onSession}
+use Rattle.abi.specs.Turns.{After, after, taken, turned, onSession}
 
 -- what the bytes hold, by what was read
 pub good : (d : Decoded) (s : List ℕ) → keptOf d ≡ decodeOf s → d .outcome ≡ k.Good → value (d .session) ≡ decodeOf s
@@ -31,3 +31,7 @@ on z f s i b w e = ap (λ (y : Outcome Session). onSession y f s i b w) e
 -- a call in its time, with room for what it says
 pub in-time : {b : Bool} (t : Turn) (i' o' s i o w : List ℕ) → b ≡ true → ltb (length w) 40 ≡ false → taken t s i' o' w ≡ turned b t i' o' s i o w
 in-time t i' o' s i o w e d = rw (e, d) refl
+
+-- what a call leaves, by its parts
+pub whole : {n n' : ℕ} {s s' i i' o o' w w' : List ℕ} → n ≡ n' → s ≡ s' → i ≡ i' → o ≡ o' → w ≡ w' → after n s i o w ≡ after n' s' i' o' w'
+whole a b c d e = rw (a, b, c, d, e) refl

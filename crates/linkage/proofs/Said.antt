@@ -18,25 +18,6 @@ module _ {M : Type 1} (𝓤 : URA M) where
   abbrev two : (φ₁ φ₂ : Type 0) → SProp 𝓤
   two φ₁ φ₂ = sep 𝓤 (fact 𝓤 φ₁) (fact 𝓤 φ₂)
 
-  abbrev three : (φ₁ φ₂ φ₃ : Type 0) → SProp 𝓤
-  three φ₁ φ₂ φ₃ = sep 𝓤 (fact 𝓤 φ₁) (two φ₂ φ₃)
-
-  abbrev four : (φ₁ φ₂ φ₃ φ₄ : Type 0) → SProp 𝓤
-  four φ₁ φ₂ φ₃ φ₄ = sep 𝓤 (fact 𝓤 φ₁) (three φ₂ φ₃ φ₄)
-
-  abbrev five : (φ₁ φ₂ φ₃ φ₄ φ₅ : Type 0) → SProp 𝓤
-  five φ₁ φ₂ φ₃ φ₄ φ₅ = sep 𝓤 (fact 𝓤 φ₁) (four φ₂ φ₃ φ₄ φ₅)
-
 module _ {M : Type 1} {𝓤 : URA M} {H : Heap 𝓤} {A : Atoms 𝓤} {K : Type 0} {W : Given 𝓤 H A} {Γ : List (Item 𝓤)} where
   pub says-two : K → {φ₁ φ₂ : Type 0} {P : SProp 𝓤} → φ₁ × φ₂ → Step K W Γ (prop P) Γ (prop (sep 𝓤 P (two 𝓤 φ₁ φ₂)))
   says-two t {φ₁} {φ₂} {P} e = step (λ s. record { prf = via 𝓤 P (s .prf) (also 𝓤 φ₁ P (fact 𝓤 φ₂) (e .0) (last 𝓤 φ₂ P (e .1))) })
-
-  pub says-five : K → {φ₁ φ₂ φ₃ φ₄ φ₅ : Type 0} {P : SProp 𝓤} → φ₁ × (φ₂ × (φ₃ × (φ₄ × φ₅))) → Step K W Γ (prop P) Γ (prop (sep 𝓤 P (five 𝓤 φ₁ φ₂ φ₃ φ₄ φ₅)))
-  says-five t {φ₁} {φ₂} {φ₃} {φ₄} {φ₅} {P} e = step (λ s. record {
-    prf = via 𝓤 P (s .prf)
-        (also 𝓤 φ₁ P (four 𝓤 φ₂ φ₃ φ₄ φ₅) (e .0)
-        (also 𝓤 φ₂ P (three 𝓤 φ₃ φ₄ φ₅) (e .1 .0)
-        (also 𝓤 φ₃ P (two 𝓤 φ₄ φ₅) (e .1 .1 .0)
-        (also 𝓤 φ₄ P (fact 𝓤 φ₅) (e .1 .1 .1 .0)
-        (last 𝓤 φ₅ P (e .1 .1 .1 .1))))));
-  })

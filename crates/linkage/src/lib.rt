@@ -35,11 +35,7 @@ pub extern "C" fn hca_call(
     count: usize,
     out: &mut [u8],
 ) -> u32
-    ensures { λ r. ⌜ r ≡ c.call kind op «op_mod» «in_mod» value (now (input .entry)) (now (list .entry)) count (now (state .entry)) (now (inbox .entry)) (now (outbox .entry)) (now (out .entry)) .code ⌝ }
-    ensures { λ _. ⌜ now (state .exit) ≡ c.call kind op «op_mod» «in_mod» value (now (input .entry)) (now (list .entry)) count (now (state .entry)) (now (inbox .entry)) (now (outbox .entry)) (now (out .entry)) .state ⌝ }
-    ensures { λ _. ⌜ now (inbox .exit) ≡ c.call kind op «op_mod» «in_mod» value (now (input .entry)) (now (list .entry)) count (now (state .entry)) (now (inbox .entry)) (now (outbox .entry)) (now (out .entry)) .inbox ⌝ }
-    ensures { λ _. ⌜ now (outbox .exit) ≡ c.call kind op «op_mod» «in_mod» value (now (input .entry)) (now (list .entry)) count (now (state .entry)) (now (inbox .entry)) (now (outbox .entry)) (now (out .entry)) .outbox ⌝ }
-    ensures { λ _. ⌜ now (out .exit) ≡ c.call kind op «op_mod» «in_mod» value (now (input .entry)) (now (list .entry)) count (now (state .entry)) (now (inbox .entry)) (now (outbox .entry)) (now (out .entry)) .out ⌝ }
+    ensures { λ r. ⌜ t.after r (now (state .exit)) (now (inbox .exit)) (now (outbox .exit)) (now (out .exit)) ≡ c.call kind op «op_mod» «in_mod» value (now (input .entry)) (now (list .entry)) count (now (state .entry)) (now (inbox .entry)) (now (outbox .entry)) (now (out .entry)) ⌝ }
 {
     let top = undo::top(list, count);
     let reserved = undo::reserved_above(list, turn_call::mark_of(value), count);
@@ -73,11 +69,7 @@ pub extern "C" fn hca_answer(
     count: usize,
     out: &mut [u8],
 ) -> u32
-    ensures { λ r. ⌜ r ≡ c.told kind a b (now (resource .entry)) (topOf (now (list .entry)) count) (now (state .entry)) (now (inbox .entry)) (now (outbox .entry)) (now (out .entry)) .code ⌝ }
-    ensures { λ _. ⌜ now (state .exit) ≡ c.told kind a b (now (resource .entry)) (topOf (now (list .entry)) count) (now (state .entry)) (now (inbox .entry)) (now (outbox .entry)) (now (out .entry)) .state ⌝ }
-    ensures { λ _. ⌜ now (inbox .exit) ≡ c.told kind a b (now (resource .entry)) (topOf (now (list .entry)) count) (now (state .entry)) (now (inbox .entry)) (now (outbox .entry)) (now (out .entry)) .inbox ⌝ }
-    ensures { λ _. ⌜ now (outbox .exit) ≡ c.told kind a b (now (resource .entry)) (topOf (now (list .entry)) count) (now (state .entry)) (now (inbox .entry)) (now (outbox .entry)) (now (out .entry)) .outbox ⌝ }
-    ensures { λ _. ⌜ now (out .exit) ≡ c.told kind a b (now (resource .entry)) (topOf (now (list .entry)) count) (now (state .entry)) (now (inbox .entry)) (now (outbox .entry)) (now (out .entry)) .out ⌝ }
+    ensures { λ r. ⌜ t.after r (now (state .exit)) (now (inbox .exit)) (now (outbox .exit)) (now (out .exit)) ≡ c.told kind a b (now (resource .entry)) (topOf (now (list .entry)) count) (now (state .entry)) (now (inbox .entry)) (now (outbox .entry)) (now (out .entry)) ⌝ }
 {
     let top = undo::top(list, count);
     turn_answer::answered(state, kind, a, b, resource, inbox, outbox, top, out)

@@ -23,11 +23,7 @@ fn answer_of(
     state: &mut [u8],
     out: &mut [u8],
 ) -> u32
-    ensures { λ r. ⌜ r ≡ t.answerKnown s a (now (resource .entry)) top (now (state .entry)) (now (inbox .entry)) (now (outbox .entry)) (now (out .entry)) .code ⌝ }
-    ensures { λ _. ⌜ now (state .exit) ≡ t.answerKnown s a (now (resource .entry)) top (now (state .entry)) (now (inbox .entry)) (now (outbox .entry)) (now (out .entry)) .state ⌝ }
-    ensures { λ _. ⌜ now (inbox .exit) ≡ t.answerKnown s a (now (resource .entry)) top (now (state .entry)) (now (inbox .entry)) (now (outbox .entry)) (now (out .entry)) .inbox ⌝ }
-    ensures { λ _. ⌜ now (outbox .exit) ≡ t.answerKnown s a (now (resource .entry)) top (now (state .entry)) (now (inbox .entry)) (now (outbox .entry)) (now (out .entry)) .outbox ⌝ }
-    ensures { λ _. ⌜ now (out .exit) ≡ t.answerKnown s a (now (resource .entry)) top (now (state .entry)) (now (inbox .entry)) (now (outbox .entry)) (now (out .entry)) .out ⌝ }
+    ensures { λ r. ⌜ t.after r (now (state .exit)) (now (inbox .exit)) (now (outbox .exit)) (now (out .exit)) ≡ t.answerKnown s a (now (resource .entry)) top (now (state .entry)) (now (inbox .entry)) (now (outbox .entry)) (now (out .entry)) ⌝ }
 {
     if fw_begin::answerable(s, a) {
         if out.len() < turns::TURN {
@@ -49,11 +45,7 @@ pub fn answer_bytes(
     top: Top,
     out: &mut [u8],
 ) -> u32
-    ensures { λ r. ⌜ r ≡ t.answered a (now (resource .entry)) top (now (state .entry)) (now (inbox .entry)) (now (outbox .entry)) (now (out .entry)) .code ⌝ }
-    ensures { λ _. ⌜ now (state .exit) ≡ t.answered a (now (resource .entry)) top (now (state .entry)) (now (inbox .entry)) (now (outbox .entry)) (now (out .entry)) .state ⌝ }
-    ensures { λ _. ⌜ now (inbox .exit) ≡ t.answered a (now (resource .entry)) top (now (state .entry)) (now (inbox .entry)) (now (outbox .entry)) (now (out .entry)) .inbox ⌝ }
-    ensures { λ _. ⌜ now (outbox .exit) ≡ t.answered a (now (resource .entry)) top (now (state .entry)) (now (inbox .entry)) (now (outbox .entry)) (now (out .entry)) .outbox ⌝ }
-    ensures { λ _. ⌜ now (out .exit) ≡ t.answered a (now (resource .entry)) top (now (state .entry)) (now (inbox .entry)) (now (outbox .entry)) (now (out .entry)) .out ⌝ }
+    ensures { λ r. ⌜ t.after r (now (state .exit)) (now (inbox .exit)) (now (outbox .exit)) (now (out .exit)) ≡ t.answered a (now (resource .entry)) top (now (state .entry)) (now (inbox .entry)) (now (outbox .entry)) (now (out .entry)) ⌝ }
 {
     let d = words_session::decode(state);
     let kept = d.outcome;
@@ -75,11 +67,7 @@ fn answer_told(
     top: Top,
     out: &mut [u8],
 ) -> u32
-    ensures { λ r. ⌜ r ≡ c.answer a (now (resource .entry)) top (now (state .entry)) (now (inbox .entry)) (now (outbox .entry)) (now (out .entry)) .code ⌝ }
-    ensures { λ _. ⌜ now (state .exit) ≡ c.answer a (now (resource .entry)) top (now (state .entry)) (now (inbox .entry)) (now (outbox .entry)) (now (out .entry)) .state ⌝ }
-    ensures { λ _. ⌜ now (inbox .exit) ≡ c.answer a (now (resource .entry)) top (now (state .entry)) (now (inbox .entry)) (now (outbox .entry)) (now (out .entry)) .inbox ⌝ }
-    ensures { λ _. ⌜ now (outbox .exit) ≡ c.answer a (now (resource .entry)) top (now (state .entry)) (now (inbox .entry)) (now (outbox .entry)) (now (out .entry)) .outbox ⌝ }
-    ensures { λ _. ⌜ now (out .exit) ≡ c.answer a (now (resource .entry)) top (now (state .entry)) (now (inbox .entry)) (now (outbox .entry)) (now (out .entry)) .out ⌝ }
+    ensures { λ r. ⌜ t.after r (now (state .exit)) (now (inbox .exit)) (now (outbox .exit)) (now (out .exit)) ≡ c.answer a (now (resource .entry)) top (now (state .entry)) (now (inbox .entry)) (now (outbox .entry)) (now (out .entry)) ⌝ }
 {
     match poll::leads(state, a, inbox, outbox, top.count, out) {
         Onward::Stall(stalls) => poll::stall_next(state, stalls, top.count, out),
@@ -100,11 +88,7 @@ pub fn answered(
     top: Top,
     out: &mut [u8],
 ) -> u32
-    ensures { λ r. ⌜ r ≡ c.told kind a b (now (resource .entry)) top (now (state .entry)) (now (inbox .entry)) (now (outbox .entry)) (now (out .entry)) .code ⌝ }
-    ensures { λ _. ⌜ now (state .exit) ≡ c.told kind a b (now (resource .entry)) top (now (state .entry)) (now (inbox .entry)) (now (outbox .entry)) (now (out .entry)) .state ⌝ }
-    ensures { λ _. ⌜ now (inbox .exit) ≡ c.told kind a b (now (resource .entry)) top (now (state .entry)) (now (inbox .entry)) (now (outbox .entry)) (now (out .entry)) .inbox ⌝ }
-    ensures { λ _. ⌜ now (outbox .exit) ≡ c.told kind a b (now (resource .entry)) top (now (state .entry)) (now (inbox .entry)) (now (outbox .entry)) (now (out .entry)) .outbox ⌝ }
-    ensures { λ _. ⌜ now (out .exit) ≡ c.told kind a b (now (resource .entry)) top (now (state .entry)) (now (inbox .entry)) (now (outbox .entry)) (now (out .entry)) .out ⌝ }
+    ensures { λ r. ⌜ t.after r (now (state .exit)) (now (inbox .exit)) (now (outbox .exit)) (now (out .exit)) ≡ c.told kind a b (now (resource .entry)) top (now (state .entry)) (now (inbox .entry)) (now (outbox .entry)) (now (out .entry)) ⌝ }
 {
     match words_calls::answer_from(kind, a, b) {
         Heard::Told(x) => answer_told(state, x, resource, inbox, outbox, top, out),

@@ -23,11 +23,7 @@ fn call_of(
     state: &mut [u8],
     out: &mut [u8],
 ) -> u32
-    ensures { λ r. ⌜ r ≡ t.callKnown s call (now (input .entry)) top (now (state .entry)) (now (inbox .entry)) (now (outbox .entry)) (now (out .entry)) .code ⌝ }
-    ensures { λ _. ⌜ now (state .exit) ≡ t.callKnown s call (now (input .entry)) top (now (state .entry)) (now (inbox .entry)) (now (outbox .entry)) (now (out .entry)) .state ⌝ }
-    ensures { λ _. ⌜ now (inbox .exit) ≡ t.callKnown s call (now (input .entry)) top (now (state .entry)) (now (inbox .entry)) (now (outbox .entry)) (now (out .entry)) .inbox ⌝ }
-    ensures { λ _. ⌜ now (outbox .exit) ≡ t.callKnown s call (now (input .entry)) top (now (state .entry)) (now (inbox .entry)) (now (outbox .entry)) (now (out .entry)) .outbox ⌝ }
-    ensures { λ _. ⌜ now (out .exit) ≡ t.callKnown s call (now (input .entry)) top (now (state .entry)) (now (inbox .entry)) (now (outbox .entry)) (now (out .entry)) .out ⌝ }
+    ensures { λ r. ⌜ t.after r (now (state .exit)) (now (inbox .exit)) (now (outbox .exit)) (now (out .exit)) ≡ t.callKnown s call (now (input .entry)) top (now (state .entry)) (now (inbox .entry)) (now (outbox .entry)) (now (out .entry)) ⌝ }
 {
     if calls::callable(s, call) {
         if out.len() < turns::TURN {
@@ -49,11 +45,7 @@ pub fn call_bytes(
     top: Top,
     out: &mut [u8],
 ) -> u32
-    ensures { λ r. ⌜ r ≡ t.called call (now (input .entry)) top (now (state .entry)) (now (inbox .entry)) (now (outbox .entry)) (now (out .entry)) .code ⌝ }
-    ensures { λ _. ⌜ now (state .exit) ≡ t.called call (now (input .entry)) top (now (state .entry)) (now (inbox .entry)) (now (outbox .entry)) (now (out .entry)) .state ⌝ }
-    ensures { λ _. ⌜ now (inbox .exit) ≡ t.called call (now (input .entry)) top (now (state .entry)) (now (inbox .entry)) (now (outbox .entry)) (now (out .entry)) .inbox ⌝ }
-    ensures { λ _. ⌜ now (outbox .exit) ≡ t.called call (now (input .entry)) top (now (state .entry)) (now (inbox .entry)) (now (outbox .entry)) (now (out .entry)) .outbox ⌝ }
-    ensures { λ _. ⌜ now (out .exit) ≡ t.called call (now (input .entry)) top (now (state .entry)) (now (inbox .entry)) (now (outbox .entry)) (now (out .entry)) .out ⌝ }
+    ensures { λ r. ⌜ t.after r (now (state .exit)) (now (inbox .exit)) (now (outbox .exit)) (now (out .exit)) ≡ t.called call (now (input .entry)) top (now (state .entry)) (now (inbox .entry)) (now (outbox .entry)) (now (out .entry)) ⌝ }
 {
     let d = words_session::decode(state);
     let kept = d.outcome;
@@ -120,11 +112,7 @@ pub fn called(
     top: Top,
     out: &mut [u8],
 ) -> u32
-    ensures { λ r. ⌜ r ≡ c.made kind op «op_mod» «in_mod» value reserved (now (input .entry)) top (now (state .entry)) (now (inbox .entry)) (now (outbox .entry)) (now (out .entry)) .code ⌝ }
-    ensures { λ _. ⌜ now (state .exit) ≡ c.made kind op «op_mod» «in_mod» value reserved (now (input .entry)) top (now (state .entry)) (now (inbox .entry)) (now (outbox .entry)) (now (out .entry)) .state ⌝ }
-    ensures { λ _. ⌜ now (inbox .exit) ≡ c.made kind op «op_mod» «in_mod» value reserved (now (input .entry)) top (now (state .entry)) (now (inbox .entry)) (now (outbox .entry)) (now (out .entry)) .inbox ⌝ }
-    ensures { λ _. ⌜ now (outbox .exit) ≡ c.made kind op «op_mod» «in_mod» value reserved (now (input .entry)) top (now (state .entry)) (now (inbox .entry)) (now (outbox .entry)) (now (out .entry)) .outbox ⌝ }
-    ensures { λ _. ⌜ now (out .exit) ≡ c.made kind op «op_mod» «in_mod» value reserved (now (input .entry)) top (now (state .entry)) (now (inbox .entry)) (now (outbox .entry)) (now (out .entry)) .out ⌝ }
+    ensures { λ r. ⌜ t.after r (now (state .exit)) (now (inbox .exit)) (now (outbox .exit)) (now (out .exit)) ≡ c.made kind op «op_mod» «in_mod» value reserved (now (input .entry)) top (now (state .entry)) (now (inbox .entry)) (now (outbox .entry)) (now (out .entry)) ⌝ }
 {
     match call_from(kind, op, op_mod, in_mod, value, reserved) {
         Wanted::Known(x) => call_bytes(state, x, input, inbox, outbox, top, out),

@@ -36,7 +36,7 @@ use denote.Triple.Statement.{Contract, Triple}
 use denote.Triple.Call.{calls-at}
 use denote.Triple.Clauses.{Lasts, ensured, lasts}
 use denote.Triple.Table.{entered, cited}
-use denote.Triple.Walked.{Stays, stay-none, stay-none-slice, gave-slice, walkOf, goes-none, goes-none-slice, goes-gave-slice, Walks, ends-at, walked, walk-meets}
+use denote.Triple.Walked.{says, Stays, stay-none, stay-none-slice, gave-slice, walkOf, goes-none, goes-none-slice, goes-gave-slice, Walks, ends-at, walked, walk-meets}
 use denote.Exit.{yes}
 use denote.Signature.{plain}
 use Rattle.session.specs.declared.Top.{Top}
@@ -45,9 +45,9 @@ use Rattle.session.proofs.Top.Laws as T′
 use Rattle.undo.specs.List.{topOf, anyReserved}
 use Rattle.undo.specs.declared.Undo.{Undo}
 use Rattle.undo.proofs.Undo as U
+use Rattle.abi.specs.Turns as turns
 use Rattle.abi.specs.Turns.{After}
 use Rattle.abi.specs.Calls.{made}
-use Rattle.linkage.proofs.Said.{says-five}
 use Rattle.undo.proofs.top as topping
 use Rattle.undo.proofs.top.Symbol as topping-def
 use Rattle.undo.proofs.top.Symbol.{name as #undo·top}
@@ -197,11 +197,11 @@ module _ {M : Type 1} (𝓤 : URA M) (H : Heap 𝓤) (A : Atoms 𝓤) (W : Given
       nothing ! $ move ! (10 ∷ 0 ∷ []) $ fjoin ! $ owned ! T.the-row (Is T.the-row) (LL.makes T.the-type T′.the-plain 𝓤 H A) t _ is $ fjoin ! $ move ! (9 ∷ 0 ∷ []) $ fjoin ! $ move ! (8 ∷ 0 ∷ []) $ fjoin ! $ move ! (7 ∷ 0 ∷ []) $ fjoin ! $ owned ! bool (Is bool) (bool-makes 𝓤 H A W) f _ refl $ fjoin ! $ owned ! u64 (Is u64) (uint-makes 𝓤 H A W w64) value _ (refl, value-fits) $ fjoin ! $ owned ! u32 (Is u32) (uint-makes 𝓤 H A W w32) in-mod _ (refl, in-mod-fits) $ fjoin ! $ owned ! u8 (Is u8) (uint-makes 𝓤 H A W w8) op-mod _ (refl, op-mod-fits) $ fjoin ! $ owned ! u16 (Is u16) (uint-makes 𝓤 H A W w16) op _ (refl, op-fits) $ fjoin ! $ owned ! u32 (Is u32) (uint-makes 𝓤 H A W w32) kind _ (refl, kind-fits) $ fjoin ! $ move ! (6 ∷ 0 ∷ []) $ fjoin ! $
       nothing ! $ move ! (2 ∷ 3 ∷ 4 ∷ 5 ∷ 6 ∷ 0 ∷ []) $ group ! 6 $ join ! $ frame ! $ done !
 
-  exits : (r : ℕ) (v : Val) (state-z : List ℕ) (inbox-z : List ℕ) (outbox-z : List ℕ) (out-z : List ℕ) → (r ≡ left .code) × ((state-z ≡ left .state) × ((inbox-z ≡ left .inbox) × ((outbox-z ≡ left .outbox) × (out-z ≡ left .out)))) → (length state-z ≡ length (now state)) × ((length inbox-z ≡ length (now inbox)) × ((length outbox-z ≡ length (now outbox)) × ((length out-z ≡ length (now out)) × Unit {0}))) → ent 𝓤 (⋆ 𝓤 H A ((‵ (flft κ₀ q₀) ⊛ ‵ (flft κ₁ q₁) ⊛ ‵ (flft κ₂ q₂) ⊛ ‵ (flft κ₃ q₃) ⊛ ‵ (flft κ₅ q₅) ⊛ ‵ ftrue) ∷ (‵ (flft κ₄ q₄) ⊛ ‵ ftrue) ∷ ‵ (finally u8 (state .name) state-z) ∷ ‵ (finally u8 (inbox .name) inbox-z) ∷ ‵ (finally u8 (outbox .name) outbox-z) ∷ ‵ (finally u8 (out .name) out-z) ∷ ‵ input-own ∷ ‵ list-own ∷ ‵ (u32 .own r (v ∷ [])) ∷ [])) (Post v)
+  exits : (r : ℕ) (v : Val) (state-z : List ℕ) (inbox-z : List ℕ) (outbox-z : List ℕ) (out-z : List ℕ) → (turns.after r state-z inbox-z outbox-z out-z ≡ left) → (length state-z ≡ length (now state)) × ((length inbox-z ≡ length (now inbox)) × ((length outbox-z ≡ length (now outbox)) × ((length out-z ≡ length (now out)) × Unit {0}))) → ent 𝓤 (⋆ 𝓤 H A ((‵ (flft κ₀ q₀) ⊛ ‵ (flft κ₁ q₁) ⊛ ‵ (flft κ₂ q₂) ⊛ ‵ (flft κ₃ q₃) ⊛ ‵ (flft κ₅ q₅) ⊛ ‵ ftrue) ∷ (‵ (flft κ₄ q₄) ⊛ ‵ ftrue) ∷ ‵ (finally u8 (state .name) state-z) ∷ ‵ (finally u8 (inbox .name) inbox-z) ∷ ‵ (finally u8 (outbox .name) outbox-z) ∷ ‵ (finally u8 (out .name) out-z) ∷ ‵ input-own ∷ ‵ list-own ∷ ‵ (u32 .own r (v ∷ [])) ∷ [])) (Post v)
   exits r v state-z inbox-z outbox-z out-z e l =
       qed W ((‵ (flft κ₀ q₀) ⊛ ‵ (flft κ₁ q₁) ⊛ ‵ (flft κ₂ q₂) ⊛ ‵ (flft κ₃ q₃) ⊛ ‵ (flft κ₅ q₅) ⊛ ‵ ftrue) ∷ (‵ (flft κ₄ q₄) ⊛ ‵ ftrue) ∷ ‵ (finally u8 (state .name) state-z) ∷ ‵ (finally u8 (inbox .name) inbox-z) ∷ ‵ (finally u8 (outbox .name) outbox-z) ∷ ‵ (finally u8 (out .name) out-z) ∷ ‵ input-own ∷ ‵ list-own ∷ ‵ (u32 .own r (v ∷ [])) ∷ []) ∵
       suffices ! _ (ends-at 𝓤 H A self.ended stayed (self.clauses 𝓤 H A mem run) W ((κs, qs, tt, args, vals), tt) v r (state-z, (tt, (tt, (tt, (tt, (tt, (tt, (inbox-z, (outbox-z, (tt, (tt, (out-z, tt)))))))))))) (l .0, (tt, (tt, (tt, (tt, (tt, (tt, (l .1 .0, (l .1 .1 .0, (tt, (tt, (l .1 .1 .1 .0, tt))))))))))))) $
-      says-five ! e $
+      says ! e $
       split ! $ move ! (1 ∷ []) $ split ! $ move ! (1 ∷ []) $ split ! $ move ! (1 ∷ []) $ split ! $ move ! (1 ∷ []) $ split ! $ move ! (1 ∷ []) $ drop ! $ move ! (5 ∷ []) $ split ! $ move ! (6 ∷ 5 ∷ 4 ∷ 3 ∷ 0 ∷ 2 ∷ 1 ∷ []) $ group ! 7 $ frame ! $
       nothing ! $ move ! (4 ∷ 0 ∷ []) $ fjoin ! $ owned ! usize (Is usize) (uint-makes 𝓤 H A W w64) count _ (refl, count-fits) $ fjoin ! $ move ! (5 ∷ 0 ∷ []) $ fjoin ! $ move ! (3 ∷ 0 ∷ []) $ fjoin ! $ move ! (2 ∷ 0 ∷ []) $ fjoin ! $ move ! (2 ∷ 0 ∷ []) $ fjoin ! $ owned ! u64 (Is u64) (uint-makes 𝓤 H A W w64) value _ (refl, value-fits) $ fjoin ! $ owned ! u32 (Is u32) (uint-makes 𝓤 H A W w32) in-mod _ (refl, in-mod-fits) $ fjoin ! $ owned ! u8 (Is u8) (uint-makes 𝓤 H A W w8) op-mod _ (refl, op-mod-fits) $ fjoin ! $ owned ! u16 (Is u16) (uint-makes 𝓤 H A W w16) op _ (refl, op-fits) $ fjoin ! $ owned ! u32 (Is u32) (uint-makes 𝓤 H A W w32) kind _ (refl, kind-fits) $ fjoin ! $ move ! (1 ∷ 0 ∷ []) $ fjoin ! $ frame ! $ done !
 
@@ -252,12 +252,8 @@ module _ {M : Type 1} (𝓤 : URA M) (H : Heap 𝓤) (A : Atoms 𝓤) (W : Given
         -- [what the callee asks; what input owns; the token of list; what list owns; _23; … _0; …]
         calls-at ! fm (Callee 𝓤 H A mem run) known-callee (to-callee newest newest-v found) (and-then ! (load ! (from ! (stop !)) (look ! 16 refl)) (and-then ! (load ! (from ! (stop !)) (look ! 46 refl)) (and-then ! (load ! (from ! (stop !)) (look ! 44 refl)) (and-then ! (load ! (from ! (stop !)) (look ! 42 refl)) (and-then ! (load ! (from ! (stop !)) (look ! 40 refl)) (and-then ! (load ! (from ! (stop !)) (look ! 38 refl)) (and-then ! (load ! (from ! (stop !)) (look ! 22 refl)) (and-then ! (load ! (from ! (stop !)) (look ! 36 refl)) (and-then ! (load ! (from ! (stop !)) (look ! 12 refl)) (and-then ! (load ! (from ! (stop !)) (look ! 8 refl)) (and-then ! (load ! (from ! (stop !)) (look ! 24 refl)) (and-then ! (load ! (from ! (stop !)) (look ! 4 refl)) (no-more !))))))))))))) (λ code-v.
         use1 W (later (some (λ (r : ℕ). ((‵ (flft κ₀ q₀) ⊛ ‵ (flft κ₁ q₁) ⊛ ‵ (flft κ₂ q₂) ⊛ ‵ (flft κ₃ q₃) ⊛ ‵ (flft κ₅ q₅) ⊛ ‵ ftrue) ⊛ ‵ (u32 .own r (code-v ∷ []))) ⊛ raw (ensured 𝓤 H A callee.ended (callee.clauses 𝓤 H A mem run) callee-κs (callee-args newest found) tt r)))) (id⊢ 𝓤 _) $ await ! tt $ pick ! (λ r.
-        split ! $ move ! (1 ∷ []) $ use1 W (some (λ (zs : Lasts callee.ended callee-κs (callee-args newest found)). ‵ (lasts callee.ended callee-κs (callee-args newest found) zs) ⊛ raw (fact 𝓤 (r ≡ (after found newest) .code)) ⊛ raw (fact 𝓤 (zs .0 ≡ (after found newest) .state)) ⊛ raw (fact 𝓤 (zs .1 .1 .1 .1 .1 .1 .1 .1 .0 ≡ (after found newest) .inbox)) ⊛ raw (fact 𝓤 (zs .1 .1 .1 .1 .1 .1 .1 .1 .1 .0 ≡ (after found newest) .outbox)) ⊛ raw (fact 𝓤 (zs .1 .1 .1 .1 .1 .1 .1 .1 .1 .1 .1 .0 ≡ (after found newest) .out)))) (id⊢ 𝓤 _) $ pick ! (λ zs.
-        split ! $ move ! (1 ∷ []) $ split ! $ heard ! (r ≡ (after found newest) .code) (λ e₀.
-        split ! $ heard ! (zs .0 ≡ (after found newest) .state) (λ e₁.
-        split ! $ heard ! (zs .1 .1 .1 .1 .1 .1 .1 .1 .0 ≡ (after found newest) .inbox) (λ e₂.
-        split ! $ heard ! (zs .1 .1 .1 .1 .1 .1 .1 .1 .1 .0 ≡ (after found newest) .outbox) (λ e₃.
-        heard ! (zs .1 .1 .1 .1 .1 .1 .1 .1 .1 .1 .1 .0 ≡ (after found newest) .out) (λ e₄.
+        split ! $ move ! (1 ∷ []) $ use1 W (some (λ (zs : Lasts callee.ended callee-κs (callee-args newest found)). ‵ (lasts callee.ended callee-κs (callee-args newest found) zs) ⊛ raw (fact 𝓤 (turns.after r (zs .0) (zs .1 .1 .1 .1 .1 .1 .1 .1 .0) (zs .1 .1 .1 .1 .1 .1 .1 .1 .1 .0) (zs .1 .1 .1 .1 .1 .1 .1 .1 .1 .1 .1 .0) ≡ after found newest)))) (id⊢ 𝓤 _) $ pick ! (λ zs.
+        split ! $ move ! (1 ∷ []) $ heard ! (turns.after r (zs .0) (zs .1 .1 .1 .1 .1 .1 .1 .1 .0) (zs .1 .1 .1 .1 .1 .1 .1 .1 .1 .0) (zs .1 .1 .1 .1 .1 .1 .1 .1 .1 .1 .1 .0) ≡ after found newest) (λ e.
         fsplit ! $ fsplit ! $ move ! (1 ∷ []) $
         feqL ! (λ n-state.
         move ! (1 ∷ []) $ fsplit ! $ drop ! $ fsplit ! $ drop ! $ fsplit ! $ drop ! $ fsplit ! $ drop ! $ fsplit ! $ drop ! $ fsplit ! $ drop ! $ fsplit ! $ drop ! $ fsplit ! $ fsplit ! $ move ! (1 ∷ []) $
@@ -272,7 +268,7 @@ module _ {M : Type 1} (𝓤 : URA M) (H : Heap 𝓤) (A : Atoms 𝓤) (W : Given
         land ! (from ! (stop !)) (init ! 55 refl (uint-lawful 𝓤 H A W w32 .typed r _ is-r .0)) $
         returns ! (look ! 55 refl) $ forget ! 9 refl $ forget ! 11 refl $ forget ! 13 refl $ forget ! 15 refl $ forget ! 17 refl $ forget ! 19 refl $ forget ! 21 refl $ forget ! 23 refl $ forget ! 25 refl $ forget ! 27 refl $ forget ! 29 refl $ forget ! 31 refl $ forget ! 33 refl $ forget ! 35 refl $ forget ! 37 refl $ forget ! 39 refl $ forget ! 41 refl $ forget ! 43 refl $ forget ! 45 refl $ forget ! 47 refl $ forget ! 49 refl $ forget ! 51 refl $ forget ! 53 refl $ forget ! 55 refl $
         move ! (55 ∷ 56 ∷ []) $ free1 ! $ move ! (53 ∷ 54 ∷ []) $ free1 ! $ move ! (51 ∷ 52 ∷ []) $ free1 ! $ move ! (49 ∷ 50 ∷ []) $ free1 ! $ move ! (47 ∷ 48 ∷ []) $ free1 ! $ move ! (45 ∷ 46 ∷ []) $ free1 ! $ move ! (43 ∷ 44 ∷ []) $ free1 ! $ move ! (41 ∷ 42 ∷ []) $ free1 ! $ move ! (39 ∷ 40 ∷ []) $ free1 ! $ move ! (37 ∷ 38 ∷ []) $ free1 ! $ move ! (35 ∷ 36 ∷ []) $ free1 ! $ move ! (33 ∷ 34 ∷ []) $ free1 ! $ move ! (31 ∷ 32 ∷ []) $ free1 ! $ move ! (29 ∷ 30 ∷ []) $ free1 ! $ move ! (27 ∷ 28 ∷ []) $ free1 ! $ move ! (25 ∷ 26 ∷ []) $ free1 ! $ move ! (23 ∷ 24 ∷ []) $ free1 ! $ move ! (21 ∷ 22 ∷ []) $ free1 ! $ move ! (19 ∷ 20 ∷ []) $ free1 ! $ move ! (17 ∷ 18 ∷ []) $ free1 ! $ move ! (15 ∷ 16 ∷ []) $ free1 ! $ move ! (13 ∷ 14 ∷ []) $ free1 ! $ move ! (11 ∷ 12 ∷ []) $ free1 ! $ move ! (9 ∷ 10 ∷ []) $ free1 ! $ free0 ! $
-        keep ! (1 ∷ 7 ∷ 5 ∷ 4 ∷ 3 ∷ 2 ∷ 6 ∷ 8 ∷ 0 ∷ []) $ by ! (exits r code-v (zs .0) (zs .1 .1 .1 .1 .1 .1 .1 .1 .0) (zs .1 .1 .1 .1 .1 .1 .1 .1 .1 .0) (zs .1 .1 .1 .1 .1 .1 .1 .1 .1 .1 .1 .0) (e₀ ∙ ap (λ (z : After). z .code) (same newest found e-top (e-found ∙ ap (λ (m : ℕ). anyReserved (skip m (take count undos))) e-mark)), (e₁ ∙ ap (λ (z : After). z .state) (same newest found e-top (e-found ∙ ap (λ (m : ℕ). anyReserved (skip m (take count undos))) e-mark)), (e₂ ∙ ap (λ (z : After). z .inbox) (same newest found e-top (e-found ∙ ap (λ (m : ℕ). anyReserved (skip m (take count undos))) e-mark)), (e₃ ∙ ap (λ (z : After). z .outbox) (same newest found e-top (e-found ∙ ap (λ (m : ℕ). anyReserved (skip m (take count undos))) e-mark)), (e₄ ∙ ap (λ (z : After). z .out) (same newest found e-top (e-found ∙ ap (λ (m : ℕ). anyReserved (skip m (take count undos))) e-mark))))))) (n-state, (n-inbox, (n-outbox, (n-out, tt))))))))))))))))))))))))))))))))))))))))))))))))))))))
+        keep ! (1 ∷ 7 ∷ 5 ∷ 4 ∷ 3 ∷ 2 ∷ 6 ∷ 8 ∷ 0 ∷ []) $ by ! (exits r code-v (zs .0) (zs .1 .1 .1 .1 .1 .1 .1 .1 .0) (zs .1 .1 .1 .1 .1 .1 .1 .1 .1 .0) (zs .1 .1 .1 .1 .1 .1 .1 .1 .1 .1 .1 .0) (e ∙ same newest found e-top (e-found ∙ ap (λ (m : ℕ). anyReserved (skip m (take count undos))) e-mark)) (n-state, (n-inbox, (n-outbox, (n-out, tt))))))))))))))))))))))))))))))))))))))))))))))))))
 
 module _ {M : Type 1} (𝓤 : URA M) (H : Heap 𝓤) (A : Atoms 𝓤) (W : Given 𝓤 H A) (mem : Memory → SProp 𝓤) (run : Routine → Fun 𝓤) where
   walks : (C : Calls 𝓤 H) (Λ : Loops 𝓤 H) → FmC 𝓤 H (W .laws) C → Triple 𝓤 (C #undo·top) (Tops 𝓤 H A mem run) → Triple 𝓤 (C #turn-call·mark-of) (Marks 𝓤 H A mem run) → Triple 𝓤 (C #undo·reserved-above) (Reserved 𝓤 H A mem run) → Triple 𝓤 (C #turn-call·called) (Callee 𝓤 H A mem run)

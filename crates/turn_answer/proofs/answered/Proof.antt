@@ -1,6 +1,5 @@
 use borrow.Author.Needs.{needs}
 use Rattle.abi.proofs.Calls.{by-heard}
-use Rattle.abi.specs.Turns.{After}
 use Rattle.words_calls.specs.Calls.{heardAs}
 use Rattle.fields.specs.Outcome.{value}
 use mathlib.Core.Path.{ap, sym, _∙_}
@@ -13,54 +12,15 @@ unfolding told
 returns c =
     let p = c .before .before .before .before .before .before .before .before .before .before .before .before .before .before .before .before .before .before .before .before .before .before .args in
     let u = p .top in
-    let g = by-heard (value _) (p .resource .now) u (p .state .now) (p .inbox .now) (p .outbox .now) (p .out .now) (sym (ap heardAs (c .before .before .before .before .before .before .before .before .before .before .before .before .before .before .x .given .1)) ∙ c .before .before .before .before .before .before .before .before .before .before .before .before .before .before .before .before .answer-from .ensures) in (
-      c .before .before .before .before .before .before .before .before .answer-told .ensures .0 ∙ ap (λ (a : After). a .code) g,
-      (
-        c .before .before .before .before .before .before .before .before .answer-told .ensures .1 .0 ∙ ap (λ (a : After). a .state) g,
-        (
-          c .before .before .before .before .before .before .before .before .answer-told .ensures .1 .1 .0 ∙ ap (λ (a : After). a .inbox) g,
-          (
-            c .before .before .before .before .before .before .before .before .answer-told .ensures .1 .1 .1 .0 ∙ ap (λ (a : After). a .outbox) g,
-            c .before .before .before .before .before .before .before .before .answer-told .ensures .1 .1 .1 .1 ∙ ap (λ (a : After). a .out) g,
-          ),
-        ),
-      ),
-    )
+    let g = by-heard (value _) (p .resource .now) u (p .state .now) (p .inbox .now) (p .outbox .now) (p .out .now) (sym (ap heardAs (c .before .before .before .before .before .before .before .before .before .before .before .before .before .before .x .given .1)) ∙ c .before .before .before .before .before .before .before .before .before .before .before .before .before .before .before .before .answer-from .ensures) in
+    c .before .before .before .before .before .before .before .before .answer-told .ensures ∙ g
 
 returns-2 : tie.Need-returns-2
 unfolding told
-returns-2 c = (
-  simp (
-    ← (c .before .before .answer-from .ensures),
-    c .before .match .keys2,
-    c .enum-told .given .1,
-  ),
-  (
-    simp (
-      ← (c .before .before .answer-from .ensures),
-      c .before .match .keys2,
-      c .enum-told .given .1,
-    ),
-    (
-      simp (
-        ← (c .before .before .answer-from .ensures),
-        c .before .match .keys2,
-        c .enum-told .given .1,
-      ),
-      (
-        simp (
-          ← (c .before .before .answer-from .ensures),
-          c .before .match .keys2,
-          c .enum-told .given .1,
-        ),
-        simp (
-          ← (c .before .before .answer-from .ensures),
-          c .before .match .keys2,
-          c .enum-told .given .1,
-        ),
-      ),
-    ),
-  ),
+returns-2 c = simp (
+  ← (c .before .before .answer-from .ensures),
+  c .before .match .keys2,
+  c .enum-told .given .1,
 )
 
 pub answered-spec : {M : Type 1} → statement M

@@ -1,6 +1,5 @@
 use borrow.Author.Needs.{needs}
 use Rattle.abi.proofs.Calls.{by-wanted}
-use Rattle.abi.specs.Turns.{After}
 use Rattle.fields.specs.Outcome.{value}
 use mathlib.Core.Path.{ap, sym, _∙_}
 use Rattle.abi.specs.Calls.{made, callAs}
@@ -12,54 +11,15 @@ unfolding made
 returns c =
     let p = c .before .before .before .before .before .before .before .before .before .before .before .before .before .before .before .before .before .before .before .before .before .before .args in
     let u = p .top in
-    let g = by-wanted (value _) (p .input .now) u (p .state .now) (p .inbox .now) (p .outbox .now) (p .out .now) (sym (ap callAs (c .before .before .before .before .before .before .before .before .before .before .before .before .before .before .x .given .1)) ∙ c .before .before .before .before .before .before .before .before .before .before .before .before .before .before .before .before .call-from .ensures) in (
-      c .before .before .before .before .before .before .before .before .call-bytes .ensures .0 ∙ ap (λ (a : After). a .code) g,
-      (
-        c .before .before .before .before .before .before .before .before .call-bytes .ensures .1 .0 ∙ ap (λ (a : After). a .state) g,
-        (
-          c .before .before .before .before .before .before .before .before .call-bytes .ensures .1 .1 .0 ∙ ap (λ (a : After). a .inbox) g,
-          (
-            c .before .before .before .before .before .before .before .before .call-bytes .ensures .1 .1 .1 .0 ∙ ap (λ (a : After). a .outbox) g,
-            c .before .before .before .before .before .before .before .before .call-bytes .ensures .1 .1 .1 .1 ∙ ap (λ (a : After). a .out) g,
-          ),
-        ),
-      ),
-    )
+    let g = by-wanted (value _) (p .input .now) u (p .state .now) (p .inbox .now) (p .outbox .now) (p .out .now) (sym (ap callAs (c .before .before .before .before .before .before .before .before .before .before .before .before .before .before .x .given .1)) ∙ c .before .before .before .before .before .before .before .before .before .before .before .before .before .before .before .before .call-from .ensures) in
+    c .before .before .before .before .before .before .before .before .call-bytes .ensures ∙ g
 
 returns-2 : tie.Need-returns-2
 unfolding made
-returns-2 c = (
-  simp (
-    ← (c .before .before .call-from .ensures),
-    c .before .match .keys2,
-    c .enum-told .given .1,
-  ),
-  (
-    simp (
-      ← (c .before .before .call-from .ensures),
-      c .before .match .keys2,
-      c .enum-told .given .1,
-    ),
-    (
-      simp (
-        ← (c .before .before .call-from .ensures),
-        c .before .match .keys2,
-        c .enum-told .given .1,
-      ),
-      (
-        simp (
-          ← (c .before .before .call-from .ensures),
-          c .before .match .keys2,
-          c .enum-told .given .1,
-        ),
-        simp (
-          ← (c .before .before .call-from .ensures),
-          c .before .match .keys2,
-          c .enum-told .given .1,
-        ),
-      ),
-    ),
-  ),
+returns-2 c = simp (
+  ← (c .before .before .call-from .ensures),
+  c .before .match .keys2,
+  c .enum-told .given .1,
 )
 
 pub called-spec : {M : Type 1} → statement M
