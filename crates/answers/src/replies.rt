@@ -3,7 +3,6 @@ use crate::words;
 use bars::Size;
 use reply::CapCheck;
 use reply::Capability;
-use reply::DevCap;
 use reply::FuncReply;
 use reply::FwCheck;
 use reply::FwReply;
@@ -109,15 +108,6 @@ pub fn cap_words(r: Capability) -> [u64; 34]
         words::wide16(e[9]),
         words::wide16(e[10]),
     ]
-}
-
-pub fn caps_with(flags: u64) -> DevCap
-    ensures { λ r. ⌜ r .flags ≡ flags ⌝ }
-{
-    DevCap {
-        flags,
-        ..DevCap::none()
-    }
 }
 
 fn fw_code(k: FwCheck) -> Code

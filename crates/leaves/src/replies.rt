@@ -1,5 +1,6 @@
 // The card's replies: document 01's number, the value beside it, then the fields.
 use answers::words;
+use reply::DevCap;
 ghost use mathlib.Core.Path.{_≡_};
 ghost use mathlib.Core.Bool.{_&&_};
 ghost use Rattle.fields.specs.Outcome.{valueOr, numberOf};
@@ -21,19 +22,29 @@ pub extern "C" fn leaf_dev_cap(reply: &[u8], known: bool, bar: u64, out: &mut [u
     words::give(out, &w)
 }
 
+// A reply of which only the flags are looked at.
+fn caps_with(flags: u64) -> DevCap
+    ensures { λ r. ⌜ r .flags ≡ flags ⌝ }
+{
+    DevCap {
+        flags,
+        ..DevCap::none()
+    }
+}
+
 // Whether flags have the capability of this number, and whether they have both for B0 steering.
 #[no_mangle]
 pub extern "C" fn leaf_flag(flags: u64, number: u8) -> bool
     ensures { λ r. ⌜ r ≡ bitIn number flags ⌝ }
 {
-    answers::replies::caps_with(flags).flag(number)
+    caps_with(flags).flag(number)
 }
 
 #[no_mangle]
 pub extern "C" fn leaf_b0(flags: u64) -> bool
     ensures { λ r. ⌜ r ≡ bitIn 41 flags && bitIn 42 flags ⌝ }
 {
-    answers::replies::caps_with(flags).b0()
+    caps_with(flags).b0()
 }
 
 #[no_mangle]
