@@ -36,7 +36,7 @@ pub enum Kept {
     NoSession,
 }
 
-// The session that was read; a fresh one where there is none.
+// What was read. The session counts where the outcome is `Good`; else the contract of `decode` leaves it open, and no caller looks at it.
 pub struct Decoded {
     pub outcome: Kept,
     pub session: Session,
