@@ -19,6 +19,8 @@ ghost use mathlib.Core.List.{_++_};
 ghost use mathlib.Core.Path.{_≡_};
 ghost use Prim.Native.Nat.{_+_, _*_, _≤_};
 ghost use lib.ListN.{length};
+ghost use Rattle.fields.specs.Outcome.{valueOr};
+ghost use Rattle.session.specs.Session.{fresh};
 ghost use Rattle.words.specs.Words.{wordsIn, putWords, sameWords, flat, rowsIn};
 ghost use Rattle.words_task.specs.Coding.{taskOf, taskWords};
 ghost use Rattle.words_stage.specs.Coding.{stageOf, stageWords};
@@ -36,7 +38,7 @@ pub enum Kept {
     NoSession,
 }
 
-// What was read. The session counts where the outcome is `Good`; else the contract of `decode` leaves it open, and no caller looks at it.
+// What was read: the session, where the outcome is `Good`; else a fresh one, which no caller looks at.
 pub struct Decoded {
     pub outcome: Kept,
     pub session: Session,
@@ -598,6 +600,7 @@ fn session_stands(s: &[u8], v: Session) -> bool
 // The session that the bytes hold; 21 where they are too few, and 20 where they are no session.
 pub fn decode(state: &[u8]) -> Decoded
     ensures { λ r. ⌜ keptOf r ≡ decodeOf (now (state .entry)) ⌝ }
+    ensures { λ r. ⌜ r .session ≡ valueOr fresh (decodeOf (now (state .entry))) ⌝ }
 {
     if state.len() < BYTES {
         return Decoded {

@@ -8,20 +8,20 @@ give-books-requires : tie.Need-give-books-requires
 give-books-requires c κs =
     let p = c .before .before .before .before .before .before .args in
     let d = c .before .before .before .decode in
-    enough (p .state .now) (d .result .session) (good (d .result) (p .state .now) (d .ensures) (c .before .enum-told .given .1))
+    enough (p .state .now) (d .result .session) (good (d .result) (p .state .now) (d .ensures .0) (c .before .enum-told .given .1))
 
 returns : tie.Need-returns
 unfolding books
 returns c = (
   simp (
-    ← (c .before .before .before .before .before .before .decode .ensures),
+    ← (c .before .before .before .before .before .before .decode .ensures .0),
     c .before .before .before .before .before .match .keys1,
     c .before .before .before .before .enum-told .given .1,
     c .before .before .give-books .ensures .0,
     c .before .before .give-books .ensures .1,
   ),
   simp (
-    ← (c .before .before .before .before .before .before .decode .ensures),
+    ← (c .before .before .before .before .before .before .decode .ensures .0),
     c .before .before .before .before .before .match .keys1,
     c .before .before .before .before .enum-told .given .1,
     c .before .before .give-books .ensures .0,
@@ -33,12 +33,12 @@ returns-2 : tie.Need-returns-2
 unfolding books
 returns-2 c = (
   simp (
-    ← (c .before .before .decode .ensures),
+    ← (c .before .before .decode .ensures .0),
     c .before .match .keys2,
     c .enum-told2 .given .1,
   ),
   simp (
-    ← (c .before .before .decode .ensures),
+    ← (c .before .before .decode .ensures .0),
     c .before .match .keys2,
     c .enum-told2 .given .1,
   ),
@@ -48,12 +48,12 @@ returns-3 : tie.Need-returns-3
 unfolding books
 returns-3 c = (
   simp (
-    ← (c .before .before .decode .ensures),
+    ← (c .before .before .decode .ensures .0),
     c .before .match .keys3,
     c .enum-told3 .given .1,
   ),
   simp (
-    ← (c .before .before .decode .ensures),
+    ← (c .before .before .decode .ensures .0),
     c .before .match .keys3,
     c .enum-told3 .given .1,
   ),

@@ -11,13 +11,13 @@ returns : tie.Need-returns
 unfolding answered
 returns c =
     let p = c .before .before .before .before .before .before .before .before .before .before .before .before .before .before .before .before .before .before .before .before .before .before .before .args in
-    let g = on (value (c .before .before .before .before .before .before .before .before .before .before .before .before .before .before .before .before .decode .result .session)) (λ x. answerKnown x (p .a) (p .resource .now) (p .top) (p .state .now) (p .inbox .now) (p .outbox .now) (p .out .now)) (p .state .now) (p .inbox .now) (p .outbox .now) (p .out .now) (good (c .before .before .before .before .before .before .before .before .before .before .before .before .before .before .before .before .decode .result) (p .state .now) (c .before .before .before .before .before .before .before .before .before .before .before .before .before .before .before .before .decode .ensures) (c .before .before .before .before .before .before .before .before .before .before .before .before .before .enum-told .given .1)) in
+    let g = on (value (c .before .before .before .before .before .before .before .before .before .before .before .before .before .before .before .before .decode .result .session)) (λ x. answerKnown x (p .a) (p .resource .now) (p .top) (p .state .now) (p .inbox .now) (p .outbox .now) (p .out .now)) (p .state .now) (p .inbox .now) (p .outbox .now) (p .out .now) (good (c .before .before .before .before .before .before .before .before .before .before .before .before .before .before .before .before .decode .result) (p .state .now) (c .before .before .before .before .before .before .before .before .before .before .before .before .before .before .before .before .decode .ensures .0) (c .before .before .before .before .before .before .before .before .before .before .before .before .before .enum-told .given .1)) in
     c .before .before .before .before .before .before .before .before .answer-of .ensures ∙ g
 
 returns-2 : tie.Need-returns-2
 unfolding answered
 returns-2 c = simp (
-  ← (c .before .before .before .decode .ensures),
+  ← (c .before .before .before .decode .ensures .0),
   c .before .match .keys2,
   c .enum-told2 .given .1,
 )
@@ -25,7 +25,7 @@ returns-2 c = simp (
 returns-3 : tie.Need-returns-3
 unfolding answered
 returns-3 c = simp (
-  ← (c .before .before .before .decode .ensures),
+  ← (c .before .before .before .decode .ensures .0),
   c .before .match .keys3,
   c .enum-told3 .given .1,
 )
