@@ -1,5 +1,5 @@
 // A question as numbers, and as a line of text.
-use crate::record;
+use crate::item;
 use crate::text;
 
 // What a call gives: 0 or its refusal; the kind of the question and its values; and how many undo records are left.
@@ -15,81 +15,51 @@ pub(crate) struct Asked {
 impl Asked {
     pub const FINISHED: u64 = 0;
 
-    pub const REG_WRITE: u64 = 6;
-
     pub const FENCE: u64 = 14;
-
-    // The command dword, in BAR 0.
-    pub const COMMAND: u64 = 0x80698;
-}
-
-// Nothing is asked, and so many undo records are there.
-pub(crate) fn pushed(undo: u64) -> Asked {
-    Asked {
-        refusal: 0,
-        kind: Asked::FINISHED,
-        a: 0,
-        b: 0,
-        c: 0,
-        undo,
-    }
-}
-
-pub(crate) fn nothing() -> Asked {
-    pushed(0)
-}
-
-// Something is asked, and it is no fence.
-pub(crate) fn on_bus(kind: u64) -> bool {
-    if kind == Asked::FINISHED {
-        return false;
-    }
-    kind != Asked::FENCE
 }
 
 // What a call has written.
 pub(crate) fn read(refusal: u32, out: &[u8]) -> Asked {
     Asked {
         refusal,
-        kind: record::word(out, 0),
-        a: record::word(out, 1),
-        b: record::word(out, 2),
-        c: record::word(out, 3),
-        undo: record::word(out, 4),
+        kind: item::word(out, 0),
+        a: item::word(out, 1),
+        b: item::word(out, 2),
+        c: item::word(out, 3),
+        undo: item::word(out, 4),
     }
 }
 
-// A command is posted by this question.
-pub(crate) fn posts(q: Asked) -> bool {
-    if q.kind != Asked::REG_WRITE {
-        return false;
-    }
-    if q.a != 0 {
-        return false;
-    }
-    q.b == Asked::COMMAND
+// A checksum with one number more: 257 times as much, and the number, modulo 2^64.
+fn summed(sum: u64, v: u64) -> u64 {
+    let more = std::num::wrapping_add_u64(sum % 72057594037927936 * 256, sum);
+    std::num::wrapping_add_u64(more, v)
 }
 
-pub(crate) fn same(x: Asked, y: Asked) -> bool {
-    if x.kind != y.kind {
-        return false;
-    }
-    if x.a != y.a {
-        return false;
-    }
-    if x.b != y.b {
-        return false;
-    }
-    x.c == y.c
+pub(crate) fn summed_byte(sum: u64, b: u8) -> u64 {
+    summed(sum, b as u64)
 }
 
-// Where the name of each kind starts, one behind the other in the text below; and how many values each kind has. `Finished` has neither.
+// A checksum with the question's numbers.
+pub(crate) fn counted(sum: u64, q: Asked) -> u64 {
+    summed(summed(summed(summed(sum, q.kind), q.a), q.b), q.c)
+}
+
+// Where the name of each kind starts, one behind the other in the text below; and how many values each kind has. `Finished` has neither, and a fence has a line of its own.
 const STARTS: [usize; 15] = [0, 0, 13, 26, 40, 54, 62, 71, 81, 89, 94, 102, 105, 110, 114];
 
 const VALUES: [u64; 14] = [0, 1, 1, 2, 2, 2, 3, 2, 1, 1, 1, 2, 1, 2];
 
+fn part(s: &[u8], from: usize, to: usize) {
+    if to <= s.len() {
+        if from <= to {
+            text::word(&s[from..to]);
+        }
+    }
+}
+
 fn name(from: usize, to: usize) {
-    text::part(
+    part(
         b"config_read16config_read32config_write16config_write32reg_readreg_writeattributesresourcestallallocatemapunmapfree",
         from,
         to,

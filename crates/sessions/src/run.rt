@@ -1,302 +1,120 @@
-// A session runs on the answers of a record.
+// A session runs on the items of the input.
 use crate::asked;
 use crate::asked::Asked;
-use crate::record;
-use crate::record::Called;
-use crate::record::Head;
-use crate::record::Stored;
+use crate::item;
+use crate::item::Item;
 use crate::text;
 use crate::told;
 use session::Top;
 ghost use Prim.Native.Nat.{_+_, _≤_, _<_};
 
-// How far a run is: its phase; how many calls were made, where the next one starts, and the kind of the last one; where the calls that pushed the undo records start, oldest first;
-// how many answers were taken, where the next one and the one before it start, how often the pair that it ends was given; the last two questions; and the open question with the
-// number of undo records.
+// How far a list is: the kind of its last call; and the undo list, which is the caller's: how many records there are, and the two values of each, oldest first.
 struct Place {
-    phase: u8,
-    made: u16,
-    call: u16,
-    kind: u8,
-    pushes: [u16; 256],
-    taken: u16,
-    at: u16,
-    last: u16,
-    given: u64,
-    older: Asked,
-    newer: Asked,
-    open: Asked,
+    call: u8,
+    undo: u64,
+    heads: [u64; 256],
+    params: [u64; 256],
 }
 
-impl Place {
-    // A call is to be made; it is running; or the run is over.
-    pub const NEXT: u8 = 0;
-
-    pub const RUNNING: u8 = 1;
-
-    pub const OVER: u8 = 2;
-}
-
-// The number of `Done` over C linkage; those of all answers are one more than in a record.
+// The number of `Done` over C linkage.
 const DONE: u32 = 4;
 
-fn begin(h: Head) -> Place {
+fn begin() -> Place {
     Place {
-        phase: Place::NEXT,
-        made: 0,
         call: 0,
-        kind: 0,
-        pushes: [0u16; 256],
-        taken: 0,
-        at: h.called,
-        last: 0,
-        given: 0,
-        older: asked::nothing(),
-        newer: asked::nothing(),
-        open: asked::nothing(),
+        undo: 0,
+        heads: [0u64; 256],
+        params: [0u64; 256],
     }
 }
 
-fn stop(p: Place) -> Place {
-    Place {
-        phase: Place::OVER,
-        ..p
-    }
-}
-
-// Where the call starts that pushed the newest of so many undo records.
-fn newest(pushes: [u16; 256], count: u64) -> u16 {
+// The value of the newest of so many records, or 0 where there is none.
+fn newest(list: [u64; 256], count: u64) -> u64 {
     if 0 < count {
         if count <= 256 {
-            return pushes[count as usize - 1];
+            return list[count as usize - 1];
         }
     }
     0
 }
 
-// The call at a place has pushed a record on so many.
-fn pushed(pushes: [u16; 256], count: u64, at: u16) -> [u16; 256] {
-    if count < 256 {
-        let mut all = pushes;
-        all[count as usize] = at;
-        return all;
-    }
-    pushes
-}
-
-// A call was made: the next one follows it, and a record that it has pushed lies at its place.
-fn behind_call(p: Place, c: Called) -> Place {
-    let open = p.open;
-    let old = p.pushes;
-    let pushes = pushed(old, open.undo, p.call);
-    Place {
-        phase: Place::RUNNING,
-        made: next(p.made),
-        call: c.next,
-        kind: c.kind,
-        pushes,
-        ..p
+// The undo list as it is lent: how many records there are, and the newest of them.
+fn top(p: Place) -> Top {
+    let heads = p.heads;
+    let params = p.params;
+    let head = newest(heads, p.undo);
+    Top {
+        count: p.undo as usize,
+        op: item::op(head),
+        op_mod: item::op_mod(head),
+        in_mod: item::in_mod(head),
+        in_param: newest(params, p.undo),
     }
 }
 
-fn running(p: Place, c: Called) -> Place {
-    if p.phase == Place::NEXT {
-        return behind_call(p, c);
-    }
-    p
-}
-
-// What a call has asked; or its refusal, with its number.
-fn turned(p: Place, q: Asked) -> Place {
-    if q.refusal != 0 {
-        told::refused(q.refusal);
-        return stop(p);
-    }
-    Place { open: q, ..p }
-}
-
-fn next(n: u16) -> u16 {
-    if n < u16::MAX {
-        return n + 1;
-    }
-    n
-}
-
-fn one_more(n: u64) -> u64 {
-    if n < u64::MAX {
-        return n + 1;
-    }
-    n
-}
-
-fn before(n: u16) -> u16 {
-    if 0 < n {
-        return n - 1;
-    }
-    n
-}
-
-// Behind an answer.
-fn behind(p: Place, s: Stored) -> Place {
-    Place {
-        taken: next(p.taken),
-        at: s.next,
-        last: p.at,
-        ..p
-    }
-}
-
-// How often a pair of answers was given.
-fn times(n: u64) {
-    text::word(b"times");
-    text::number(n);
-    text::end_line();
-}
-
-// The next answer; or the one before again, where this one ends a pair that is given more often.
-fn onward(p: Place, s: Stored) -> Place {
-    if s.times < 2 {
-        return behind(p, s);
-    }
-    if p.given < s.times - 1 {
+// A record is pushed on the list.
+fn pushed(p: Place, i: Item) -> Place {
+    text::line(b"call", Item::PUSH as u64);
+    if p.undo < 256 {
+        let mut heads = p.heads;
+        let mut params = p.params;
+        let k = p.undo as usize;
+        heads[k] = i.a;
+        params[k] = i.b;
+        text::line(b"undo", p.undo + 1);
         return Place {
-            taken: before(p.taken),
-            at: p.last,
-            given: p.given + 1,
+            undo: p.undo + 1,
+            heads,
+            params,
             ..p
         };
     }
-    times(s.times);
-    Place {
-        given: 0,
-        ..behind(p, s)
-    }
-}
-
-// The question is a fence, and the answer the outbox that is stored for it.
-fn fetches(question: u64, answer: u8) -> bool {
-    if question == Asked::FENCE {
-        return answer == Stored::OUTBOX;
-    }
-    false
-}
-
-// Behind the answer to the open question. A fence has one only where the outbox is stored for it.
-fn moved(p: Place, s: Stored) -> Place {
-    let open = p.open;
-    if fetches(open.kind, s.kind) {
-        return behind(p, s);
-    }
-    if asked::on_bus(open.kind) {
-        let newer = p.newer;
-        return onward(
-            Place {
-                older: newer,
-                newer: open,
-                ..p
-            },
-            s,
-        );
-    }
     p
 }
 
-// The question's line. Where a pair of answers is given again, the question must be the one that stood there before, and is not written again.
-fn line(given: u64, older: Asked, q: Asked, inbox: &[u8]) {
-    if given == 0 {
-        if asked::posts(q) {
-            told::inbox(inbox);
-        }
-        asked::line(q);
-        return;
-    }
-    if asked::same(q, older) {
-        return;
-    }
-    text::word(b"other ");
-    asked::line(q);
-}
-
-// The call that is made now, or the open question. A fence is no bus call, and no line is written.
-fn shown(p: Place, kind: u8, inbox: &[u8]) {
-    let open = p.open;
-    let older = p.older;
-    if p.phase == Place::NEXT {
-        told::call(kind);
-        return;
-    }
-    if asked::on_bus(open.kind) {
-        line(p.given, older, open, inbox);
-    }
-}
-
-// The next answer; where there is none, one of no bytes that is no outbox.
-fn reply(taken: u16, at: u16, h: Head, body: &[u8]) -> Stored {
-    if h.answers <= taken {
-        return record::no_answer(at);
-    }
-    record::stored_at(body, at)
-}
-
-// The number by which an answer is told to the session: a fence is done.
-fn number(question: u64, answer: u8) -> u32 {
-    if question == Asked::FENCE {
-        return DONE;
-    }
-    answer as u32 + 1
-}
-
-fn byte_or_zero(s: &[u8], i: usize) -> u8 {
+fn byte_or(s: &[u8], i: usize, other: u8) -> u8 {
     if i < s.len() {
         return s[i];
     }
-    0
+    other
 }
 
-// These bytes, and zeros behind them.
-fn fill(out: &mut [u8], s: &[u8]) {
+// These bytes, and others behind them.
+fn fill(out: &mut [u8], s: &[u8], other: u8) {
     let mut i: usize = 0;
     while i < out.len() {
-        out[i] = byte_or_zero(s, i);
+        out[i] = byte_or(s, i, other);
         i = i + 1;
     }
 }
 
-// The outbox as the device has it, where it is stored for this question.
-fn fetch(question: u64, s: Stored, body: &[u8], outbox: &mut [u8]) {
-    let to = record::list_end(s, body);
-    let from = record::list_start(s, to);
-    if fetches(question, s.kind) {
-        fill(outbox, &body[from..to]);
-    }
+// A new list: a fresh session. What the mailboxes hold before is no zero, so that a byte which the session leaves is seen.
+fn fresh(state: &mut [u8], inbox: &mut [u8], outbox: &mut [u8]) -> Place {
+    text::word(b"list\n");
+    turns::fresh_bytes(state);
+    fill(inbox, b"", 0xa5);
+    fill(outbox, b"", 0xa5);
+    begin()
 }
 
-// The device has done what the open question asks.
-fn come(p: Place, h: Head, body: &[u8], outbox: &mut [u8]) {
-    let open = p.open;
-    fetch(open.kind, reply(p.taken, p.at, h, body), body, outbox);
-}
-
-// A stored call. A push is the caller's own.
-fn made(
-    c: Called,
+// The session is called.
+fn called(
+    i: Item,
     input: &[u8],
     t: Top,
     state: &mut [u8],
     inbox: &mut [u8],
     outbox: &mut [u8],
 ) -> Asked {
-    if c.kind == Called::PUSH {
-        return asked::pushed(one_more(t.count as u64));
-    }
     let mut out = [0u8; 40];
+    text::line(b"call", i.kind as u64);
     let code = turn_call::called(
         state,
-        c.kind as u32,
-        c.op,
-        c.op_mod,
-        c.in_mod,
-        c.value,
+        i.kind as u32,
+        item::op(i.a),
+        item::op_mod(i.a),
+        item::in_mod(i.a),
+        i.b,
         false,
         input,
         inbox,
@@ -307,141 +125,128 @@ fn made(
     asked::read(code, &out)
 }
 
-// The session is called, or handed an answer: what it asks then.
-fn call(
-    phase: u8,
-    c: Called,
+// The session is handed an answer.
+fn given(
     kind: u32,
-    s: Stored,
+    a: u64,
+    b: u64,
     list: &[u8],
     t: Top,
     state: &mut [u8],
     inbox: &mut [u8],
     outbox: &mut [u8],
 ) -> Asked {
-    if phase == Place::NEXT {
-        return made(c, list, t, state, inbox, outbox);
-    }
     let mut out = [0u8; 40];
-    let code = turn_answer::answered(state, kind, s.a, s.b, list, inbox, outbox, t, &mut out);
+    let code = turn_answer::answered(state, kind, a, b, list, inbox, outbox, t, &mut out);
     asked::read(code, &out)
 }
 
-// What is handed in: the input of a call, or the next answer.
-fn handed(p: Place, c: Called, h: Head, body: &[u8]) -> Stored {
-    if p.phase == Place::NEXT {
-        return record::input_of(c);
+// The kind of an answer where an even number of answers is left, and else `Done`.
+fn in_turn(left: u64, kind: u32) -> u32 {
+    if left % 2 == 0 {
+        return kind;
     }
-    reply(p.taken, p.at, h, body)
+    DONE
 }
 
-// The next call, or the answer to the open question, which is shown.
-fn step(
+// An answer and `Done` are given in turn, so often as the first value says. The line has that number, and a checksum of the questions that they led to, which have no lines.
+fn again(i: Item, t: Top, state: &mut [u8], inbox: &mut [u8], outbox: &mut [u8]) {
+    let kind = (i.kind % 16) as u32;
+    let mut sum: u64 = 0;
+    let mut left = i.a % 4294967296 * 2;
+    while left > 0 {
+        let q = given(in_turn(left, kind), i.b, 0, b"", t, state, inbox, outbox);
+        sum = asked::counted(sum, q);
+        left = left - 1;
+    }
+    text::word(b"times");
+    text::number(i.a);
+    text::number(sum);
+    text::end_line();
+}
+
+// A call or an answer, and what it has led to.
+fn onward(
     p: Place,
-    h: Head,
-    body: &[u8],
+    i: Item,
+    list: &[u8],
     state: &mut [u8],
     inbox: &mut [u8],
     outbox: &mut [u8],
 ) -> Place {
-    let open = p.open;
-    let c = record::call_at(body, p.call);
-    let s = handed(p, c, h, body);
-    let pushes = p.pushes;
-    let t = record::top_of(body, open.undo, newest(pushes, open.undo));
-    let to = record::list_end(s, body);
-    let from = record::list_start(s, to);
-    shown(p, c.kind, inbox);
-    let kind = number(open.kind, s.kind);
-    let q = call(
-        p.phase,
-        c,
-        kind,
-        s,
-        &body[from..to],
-        t,
+    if i.kind < Item::ANSWER {
+        let q = called(i, list, top(p), state, inbox, outbox);
+        told::came(q, i.kind, state, inbox, outbox);
+        return Place {
+            call: i.kind,
+            undo: q.undo,
+            ..p
+        };
+    }
+    let q = given(
+        (i.kind % 16) as u32,
+        i.a,
+        i.b,
+        list,
+        top(p),
         state,
         inbox,
         outbox,
     );
-    turned(running(moved(p, s), c), q)
+    told::came(q, p.call, state, inbox, outbox);
+    Place { undo: q.undo, ..p }
 }
 
-// Whether answers are left at the end of a run.
-fn early(taken: u16, h: Head) {
-    if taken < h.answers {
-        text::word(b"early\n");
-    }
-}
-
-// What a call came to; the next one is made, if there is one.
-fn came(p: Place, h: Head, state: &[u8], inbox: &[u8], outbox: &[u8]) -> Place {
-    let open = p.open;
-    told::ended(p.kind, open.undo, state, inbox, outbox);
-    if p.made < h.calls {
-        return Place {
-            phase: Place::NEXT,
-            ..p
-        };
-    }
-    early(p.taken, h);
-    stop(p)
-}
-
-// No answer is left for the open question.
-fn left_open(p: Place) -> Place {
-    let open = p.open;
-    text::word(b"open ");
-    asked::line(open);
-    stop(p)
-}
-
-// The end of a call, where nothing is asked any more; the end of the run, where a question has no answer.
-fn ended(p: Place, h: Head, state: &[u8], inbox: &[u8], outbox: &[u8]) -> Place {
-    let open = p.open;
-    if open.kind == Asked::FINISHED {
-        if p.phase == Place::RUNNING {
-            return came(p, h, state, inbox, outbox);
-        }
-        return p;
-    }
-    if asked::on_bus(open.kind) {
-        if h.answers <= p.taken {
-            return left_open(p);
-        }
-    }
-    p
-}
-
-// One turn of a run.
+// What an item asks for; its bytes are the first of those that were read.
 fn turn(
     p: Place,
-    h: Head,
-    body: &[u8],
+    i: Item,
+    room: &[u8],
     state: &mut [u8],
     inbox: &mut [u8],
     outbox: &mut [u8],
 ) -> Place {
-    come(p, h, body, outbox);
-    ended(
-        step(p, h, body, state, inbox, outbox),
-        h,
-        state,
-        inbox,
-        outbox,
-    )
+    let n = i.bytes as usize;
+    if room.len() < n {
+        return p;
+    }
+    let list = &room[..n];
+    if i.kind == Item::LIST {
+        return fresh(state, inbox, outbox);
+    }
+    if i.kind == Item::PUSH {
+        return pushed(p, i);
+    }
+    if i.kind == Item::OUTBOX {
+        fill(outbox, list, 0);
+        return p;
+    }
+    if i.kind < Item::AGAIN {
+        return onward(p, i, list, state, inbox, outbox);
+    }
+    again(i, top(p), state, inbox, outbox);
+    p
 }
 
-// The calls of a record on a fresh session. A call asks no more than some millions of questions.
-pub(crate) fn run(h: Head, body: &[u8], state: &mut [u8], inbox: &mut [u8], outbox: &mut [u8]) {
-    let mut p = begin(h);
-    let mut turns: u64 = 100000000;
-    while turns > 0 {
-        if p.phase == Place::OVER {
+// The items, one after the other. No input has so many; a proved loop has to end.
+fn run(room: &mut [u8], state: &mut [u8], inbox: &mut [u8], outbox: &mut [u8]) {
+    let mut p = begin();
+    let mut left = u64::MAX;
+    while left > 0 {
+        let i = item::next(room);
+        if i.kind == Item::END {
             return;
         }
-        p = turn(p, h, body, state, inbox, outbox);
-        turns = turns - 1;
+        p = turn(p, i, room, state, inbox, outbox);
+        left = left - 1;
     }
-    text::word(b"no end\n");
+}
+
+// All lists.
+pub(crate) fn lists() {
+    let mut room = [0u8; 4096];
+    let mut state = [0u8; 3336];
+    let mut inbox = [0u8; 4096];
+    let mut outbox = [0u8; 4096];
+    run(&mut room, &mut state, &mut inbox, &mut outbox);
 }

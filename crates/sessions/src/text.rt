@@ -5,15 +5,6 @@ pub(crate) fn word(s: &[u8]) {
     io::write_all(STDOUT_FILENO, s);
 }
 
-// The part of a text from one place to another.
-pub(crate) fn part(s: &[u8], from: usize, to: usize) {
-    if to <= s.len() {
-        if from <= to {
-            word(&s[from..to]);
-        }
-    }
-}
-
 // A space and the number in hexadecimal.
 pub(crate) fn number(v: u64) {
     word(b" ");
@@ -22,4 +13,11 @@ pub(crate) fn number(v: u64) {
 
 pub(crate) fn end_line() {
     word(b"\n");
+}
+
+// A line of a name and a number.
+pub(crate) fn line(name: &[u8], v: u64) {
+    word(name);
+    number(v);
+    end_line();
 }

@@ -3,15 +3,42 @@
 use std::fmt::Write;
 
 use compare::calls::sample::{cases, sample};
-use compare::calls::stored::checksum;
+use compare::calls::stored::{checksum, mixed};
 use session::abi::{self, Words};
-use session::ffi::{self, Called, Reader};
-use session::{Answer, Mapping, Question, Session, Undo};
+use session::ffi::{self, Called, Reader, Told};
+use session::{Question, Session, Undo};
 
-/// The bytes of a record that were not read yet.
-struct Bytes<'a>(&'a [u8]);
+/// The first kinds of what is no call: a record that is pushed, an answer, one that is given again, an outbox, a list.
+const PUSH: u8 = 10;
+const ANSWER: u8 = 16;
+const AGAIN: u8 = 32;
+const OUTBOX: u8 = 48;
+const LIST: u8 = 49;
 
-impl<'a> Bytes<'a> {
+/// An item of the input.
+struct Item<'a> {
+    kind: u8,
+    a: u64,
+    b: u64,
+    bytes: &'a [u8],
+}
+
+impl<'a> Item<'a> {
+    /// A call, or a record that is pushed.
+    fn called(&self) -> Called<'a> {
+        let (op, op_mod, in_mod) = ((self.a >> 40) as u16, (self.a >> 32) as u8, self.a as u32);
+        Called { kind: self.kind.into(), op, op_mod, in_mod, value: self.b, input: self.bytes }
+    }
+
+    fn told(&self) -> Told<'a> {
+        Told { kind: (self.kind - ANSWER).into(), a: self.a, b: self.b, resource: self.bytes }
+    }
+}
+
+/// The bytes of the input that were not read yet.
+struct Items<'a>(&'a [u8]);
+
+impl<'a> Items<'a> {
     fn take(&mut self, n: usize) -> &'a [u8] {
         let (now, behind) = self.0.split_at(n);
         self.0 = behind;
@@ -21,28 +48,17 @@ impl<'a> Bytes<'a> {
     fn number(&mut self, n: usize) -> u64 {
         self.take(n).iter().fold(0, |v, b| v << 8 | u64::from(*b))
     }
+}
 
-    /// Kind and times.
-    fn kind(&mut self) -> (u8, u64) {
-        let kind = self.number(1) as u8;
-        (kind % 128, if kind < 128 { 1 } else { self.number(4) })
-    }
+impl<'a> Iterator for Items<'a> {
+    type Item = Item<'a>;
 
-    fn answer(&mut self, kind: u8) -> Answer<'a> {
-        match kind {
-            0 => Answer::Word(self.number(2) as u16),
-            1 => Answer::Dword(self.number(4) as u32),
-            2 => Answer::Qword(self.number(8)),
-            3 => Answer::Done,
-            4 => Answer::Failed,
-            5 => Answer::Handle(self.number(8)),
-            6 => Answer::Mapped(Mapping { address: self.number(8), bytes: self.number(8) }),
-            7 => {
-                let n = self.number(2) as usize;
-                Answer::List(self.take(n))
-            }
-            _ => panic!("an answer of kind {kind}"),
+    fn next(&mut self) -> Option<Item<'a>> {
+        if self.0.is_empty() {
+            return None;
         }
+        let (kind, a, b, n) = (self.number(1) as u8, self.number(8), self.number(8), self.number(2) as usize);
+        Some(Item { kind, a, b, bytes: self.take(n) })
     }
 }
 
@@ -66,74 +82,107 @@ fn line(q: Question) -> String {
     }
 }
 
-/// The kind of a record that is pushed.
-const PUSH: u32 = 10;
-
-/// A session on stored answers, over the functions of include/hca.h.
-struct Replay<'a> {
+/// Sessions on stored answers, over the functions of include/hca.h.
+struct Replay {
     state: Vec<u8>,
     inbox: Vec<u8>,
     outbox: Vec<u8>,
+    /// The question that is open, and the count of records, as they were written last.
     out: [u8; 40],
     undo: [Undo; abi::UNDO_RECORDS],
     count: usize,
-    answers: Bytes<'a>,
-    /// The answer before the next one, where the two may be given in turn.
-    last: Answer<'a>,
+    /// The kind of the call that is made.
+    kind: u32,
     text: String,
 }
 
-impl<'a> Replay<'a> {
-    fn call(&mut self, call: impl FnOnce(ffi::Lent) -> u32) -> Question {
+impl Replay {
+    fn new() -> Replay {
+        Replay {
+            state: Vec::new(),
+            inbox: Vec::new(),
+            outbox: Vec::new(),
+            out: [0; 40],
+            undo: [Undo::default(); abi::UNDO_RECORDS],
+            count: 0,
+            kind: abi::OPEN,
+            text: String::new(),
+        }
+    }
+
+    fn item(&mut self, i: &Item) {
+        match i.kind {
+            0..PUSH => self.called(i.called()),
+            PUSH => self.push(i.called()),
+            ANSWER..AGAIN => self.answered(i.told()),
+            AGAIN..OUTBOX => self.again((i.kind - AGAIN).into(), i.a, i.b),
+            OUTBOX => self.filled(i.bytes),
+            LIST => self.list(),
+            kind => panic!("an item of kind {kind}"),
+        }
+    }
+
+    /// A list begins.
+    fn list(&mut self) {
+        self.finished();
+        self.state = Session::new().state().to_vec();
+        self.inbox = vec![0xa5; abi::MAILBOX];
+        self.outbox = vec![0xa5; abi::MAILBOX];
+        self.count = 0;
+        self.text.push_str("list\n");
+    }
+
+    /// No question is open: every one had its answer.
+    fn finished(&self) {
+        assert_eq!(self.question(), Question::Finished, "a question without an answer");
+    }
+
+    fn question(&self) -> Question {
+        Question::of(&Words(&self.out)).expect("a question")
+    }
+
+    /// A call of the library, which must be taken.
+    fn turn(&mut self, call: impl FnOnce(ffi::Lent) -> u32) {
         let Replay { state, inbox, outbox, out, undo, count, text, .. } = self;
         let lent = ffi::Lent { state, inbox, outbox, undo, count: *count, out };
         assert_eq!(call(lent), 0, "the call is taken, behind\n{}", text.lines().last().unwrap_or_default());
         self.count = Words(&self.out).at(4) as usize;
-        Question::of(&Words(&self.out)).expect("a question")
     }
 
-    fn give(&mut self, answer: Answer<'a>) -> Question {
-        self.call(|l| ffi::answer(l, answer.told()))
+    /// Writes the question that is open; where there is none, what the call came to.
+    fn asked(&mut self) {
+        match self.question() {
+            Question::Finished => self.told(),
+            Question::Fence => self.row("fence", &[checksum(&self.inbox)]),
+            q => {
+                let _ = writeln!(self.text, "{}", line(q));
+            }
+        }
     }
 
-    /// A fence: the outbox is there where the next answer is one.
-    fn fence(&mut self) -> Question {
-        if self.answers.0.first() == Some(&8) {
-            self.answers.take(1);
-            let n = self.answers.number(2) as usize;
-            let bytes = self.answers.take(n);
-            self.outbox.fill(0);
-            self.outbox[..n].copy_from_slice(bytes);
-        }
-        self.give(Answer::Done)
+    fn answered(&mut self, told: Told) {
+        self.turn(|l| ffi::answer(l, told));
+        self.asked();
     }
 
-    fn ask(&mut self, q: Question) -> Question {
-        if let Question::RegisterWrite { bar: 0, offset: 0x80698, .. } = q {
-            let _ = writeln!(self.text, "inbox {:x}", checksum(&self.inbox));
+    /// A value and done, so many times; the questions that they led to are in the checksum.
+    fn again(&mut self, kind: u32, times: u64, value: u64) {
+        let told = |kind: u32, a: u64| Told { kind, a, b: 0, resource: &[] };
+        let mut sum = 0;
+        for _ in 0..times {
+            for answer in [told(kind, value), told(abi::DONE, 0)] {
+                self.turn(|l| ffi::answer(l, answer));
+                sum = (0..4).fold(sum, |sum, k| mixed(sum, Words(&self.out).at(k)));
+            }
         }
-        let _ = writeln!(self.text, "{}", line(q));
-        let (kind, times) = self.answers.kind();
-        let answer = self.answers.answer(kind);
-        let mut next = self.give(answer);
-        let first = self.last;
-        for _ in 1..times {
-            next = self.give(first);
-            assert_eq!(next, q, "the pair is asked again");
-            next = self.give(answer);
-        }
-        if times > 1 {
-            let _ = writeln!(self.text, "times {times:x}");
-        }
-        self.last = answer;
-        next
+        self.row("times", &[times, sum]);
     }
 
-    fn run(&mut self, first: Question) {
-        let mut q = first;
-        while q != Question::Finished {
-            q = if q == Question::Fence { self.fence() } else { self.ask(q) };
-        }
+    /// The outbox as the device has it, before the fence that shows it is answered.
+    fn filled(&mut self, bytes: &[u8]) {
+        assert_eq!(self.question(), Question::Fence, "an outbox that nobody looks at");
+        self.outbox.fill(0);
+        self.outbox[..bytes.len()].copy_from_slice(bytes);
     }
 
     fn row(&mut self, name: &str, words: &[u64]) {
@@ -161,17 +210,18 @@ impl<'a> Replay<'a> {
 
     fn books(&mut self) {
         let b = self.read(Reader::Books, 280);
-        self.row("books", &[&b[..5], &b[6..11]].concat());
+        self.row("books", &b[..5]);
+        self.row("broken", &b[6..11]);
         (0..b[1] as usize).for_each(|k| self.row("lent", &b[88 + 3 * k..91 + 3 * k]));
         self.row("undo", &[self.count as u64]);
     }
 
     /// What a call came to.
-    fn told(&mut self, kind: u32) {
+    fn told(&mut self) {
         let r = self.read(Reader::Result, 5);
         self.row("gave", &r);
         let open = [2, 5, 6, 7].contains(&r[0]);
-        if open && kind == abi::OPEN {
+        if open && self.kind == abi::OPEN {
             self.opened();
         }
         if open {
@@ -182,70 +232,41 @@ impl<'a> Replay<'a> {
     }
 
     fn push(&mut self, c: Called) {
+        self.row("call", &[c.kind.into()]);
         let record = Undo { op: c.op, op_mod: c.op_mod, in_mod: c.in_mod, in_param: c.value };
         assert_eq!(ffi::push_undo(&mut self.undo, self.count, record), 0, "a record that may be pushed");
         self.count += 1;
         self.row("undo", &[self.count as u64]);
     }
 
-    /// One call of a record.
     fn called(&mut self, c: Called) {
         self.row("call", &[c.kind.into()]);
-        if c.kind == PUSH {
-            return self.push(c);
-        }
-        let first = self.call(|l| ffi::call(l, c));
-        self.run(first);
-        self.told(c.kind);
+        self.kind = c.kind;
+        self.turn(|l| ffi::call(l, c));
+        self.asked();
     }
-}
-
-/// The next call.
-fn call<'a>(calls: &mut Bytes<'a>) -> Called<'a> {
-    let kind = calls.number(1) as u32;
-    let (op, op_mod) = (calls.number(2) as u16, calls.number(1) as u8);
-    let (in_mod, value, n) = (calls.number(4) as u32, calls.number(8), calls.number(2) as usize);
-    Called { kind, op, op_mod, in_mod, value, input: calls.take(n) }
-}
-
-/// One record; what it prints.
-fn replayed(input: &mut Bytes) -> String {
-    let [count, call_bytes, _, answer_bytes] = [(); 4].map(|()| input.number(2) as usize);
-    let mut calls = Bytes(input.take(call_bytes));
-    let mut replay = Replay {
-        state: Session::new().state().to_vec(),
-        inbox: vec![0xa5; 4096],
-        outbox: vec![0xa5; 4096],
-        out: [0; 40],
-        undo: [Undo::default(); abi::UNDO_RECORDS],
-        count: 0,
-        answers: Bytes(input.take(answer_bytes)),
-        last: Answer::Done,
-        text: String::new(),
-    };
-    (0..count).for_each(|_| replay.called(call(&mut calls)));
-    assert!(calls.0.is_empty() && replay.answers.0.is_empty(), "every call is made, every answer is given");
-    replay.text
 }
 
 #[test]
 fn the_stored_sessions_can_be_run_from_their_form() {
     let (stdin, stdout) = sample();
-    assert!(stdin.len() < 400_000, "{} bytes", stdin.len());
-    let mut input = Bytes(&stdin);
-    let mut records = 0;
-    let mut written = String::new();
+    assert!(stdin.len() < 900_000, "{} bytes", stdin.len());
     let cases = cases();
-    while !input.0.is_empty() {
-        println!("{}", cases[records].name);
-        written.push_str(&replayed(&mut input));
-        records += 1;
+    let mut names = cases.iter().map(|c| &c.name);
+    let mut replay = Replay::new();
+    for item in Items(&stdin) {
+        assert!(item.bytes.len() <= 4096, "an item that the program takes");
+        if item.kind == LIST {
+            println!("{}", names.next().expect("no more lists than cases"));
+        }
+        replay.item(&item);
     }
-    assert_eq!(records, cases.len());
-    for (n, (rust, session)) in stdout.lines().zip(written.lines()).enumerate() {
+    replay.finished();
+    assert_eq!(names.next(), None, "a list of each case");
+    for (n, (rust, session)) in stdout.lines().zip(replay.text.lines()).enumerate() {
         assert_eq!(rust, session, "line {}", n + 1);
     }
-    assert_eq!(stdout, written);
+    assert_eq!(stdout, replay.text);
 }
 
 /// Every kind of call, every end of an opening and of a close, and every refusal that the Rust has.

@@ -1,46 +1,47 @@
 //! A list of calls as the gate has it stored: what the Rust was answered, and what it asked and came to.
 //!
-//! A record has four numbers of 16 bits: the calls, their bytes, the answers, and their bytes. Then the calls, one behind the
-//! other, and the answers, in the order in which they are given. All numbers are big-endian. Before the first call every
-//! byte of both mailboxes is 0xa5, and no record is on the undo list.
-//!
-//! A call is the arguments of hca_call: its kind (8 bits), opcode (16), opcode modifier (8), input modifier (32), value (64),
-//! the length of the input (16), and the input. What a kind does not look at is 0. The kind 10 is hca_push_undo of that
-//! record, its in parameter as the value, at the end of the list; it asks nothing.
-//!
-//! An answer is a byte with its kind, and its values. 128 is added to the kind where the answer and the one before it are
-//! given more than once in turn; then the number of times, 32 bits, stands behind the kind.
+//! The input is a sequence of items, one behind the other. An item has a kind (8 bits), two values a and b (64 bits each), a
+//! length n (16 bits), all big-endian, and n bytes, at most 4,096. What a kind does not look at is 0.
 //!
 //! ```text
-//! 0, 1, 2   word, dword, qword   16, 32 or 64 bits
-//! 3, 4      done, failed
-//! 5         handle               64 bits
-//! 6         mapped               device address, bytes: 64 bits each
-//! 7         list                 its length, 16 bits, and its bytes
-//! 8         outbox               a length, 16 bits, and so many bytes: the outbox as the device has it once a command
-//!                                that names it was seen done, zeros behind the bytes. It belongs to the fence that
-//!                                follows that read, and the fence is then done
+//! 0 .. 9     a call of that kind of hca_call: a is the opcode times 2^40, plus the opcode modifier times 2^32, plus the
+//!            input modifier; b is the value, and the bytes are the input
+//! 10         hca_push_undo of a record: a as of a call, b its in parameter. It asks nothing
+//! 16 + k     an answer of kind k of hca_answer: a and b are its values, and the bytes are the list
+//! 32 + k     again: the answer of kind k, 1 or 2, with the value b, and then done, are given a times in turn
+//! 48         the outbox as the device has it: the bytes, and zeros behind them. It stands before the answer of the fence
+//!            behind the read that shows a command done which names the outbox
+//! 49         a list begins: a fresh session, every byte of both mailboxes 0xa5, no record on the undo list
 //! ```
 //!
-//! Any other fence has no answer here, and leaves the outbox: it is done.
+//! Every question has its answer, fences too. The Rust's run does not show these; they stand by rule, directly before each
+//! write of the command dword, and directly behind each read of it that shows the posted command done.
 //!
-//! The output has hexadecimal numbers. Each question is a line, as of the program `machines`, `times n` behind a pair of
-//! them likewise; none for a fence. Before each write of the command dword a line `inbox` has the checksum of the inbox.
-//! The checksum of bytes begins with 0 and goes on by s times 257, plus the byte, modulo 4294967291.
+//! The output has hexadecimal numbers. Each question is a line when it is asked, as of the program `machines`; that of a fence
+//! is `fence S`, with the checksum of the inbox. The checksum of bytes begins with 0 and goes on by s times 257, plus the
+//! byte, modulo 2^64.
+//!
+//! A read and a stall that come again and again are written once, and behind them the read, and `times M S`: from that read
+//! on M pairs of answers were given by one item. S is the checksum of the 2 M questions that they led to (a stall, a read, and
+//! so on), its numbers the four words that hca_question has for each. These have no lines of their own; the last of them, a
+//! read, is open then. Where the same read stands behind the last stall, it is that one; else it is the last read of the pairs,
+//! and it and its stall have their own answers.
 //!
 //! ```text
+//! list                  a list begins
 //! call K                before the questions of each call: its kind
 //! gave R A B C D        behind them: the words of hca_result
 //! uar .. table          behind a good opening, what it has found out, as the words of hca_setup: 0 to 2 of `uar`, 4 to 7
 //!                       of `func`, 8 to 20 of `caps`, 22 to 39 of `flags`, 17 of each port that was asked about, 74 to 77
 //!                       of `layout`, and five of each `table` in the order of their bases
-//! books                 where the session is open, words 0 to 4 and 6 to 10 of hca_books
+//! books, broken         where the session is open, words 0 to 4 and 6 to 10 of hca_books
 //! lent H A P            likewise each lent buffer: its three words
 //! undo N                likewise how many records are on the list
 //! boxes I O             the checksums of inbox and outbox
 //! ```
 //!
-//! Behind a call of the kind 10 there is the line `undo` alone.
+//! Behind a call of the kind 10 there is the line `undo` alone. Where a call or an answer is refused, `refused N` has the
+//! number; no such line is expected.
 
 use std::fmt::Write;
 
@@ -53,23 +54,47 @@ use world::trace::{Event, Trace};
 
 use super::beside::{rust_noted, Step};
 use super::cases::Case;
-use crate::machines::records::{fold, of_event, turn, Record, Turn, Turns};
+use crate::machines::records::{fold, of_event, turn, Record, Turn, Turns, DONE, DWORD, LIST as LISTED, WORD};
 use crate::sessions::glimpse::Notes;
 
-/// The kind of an outbox.
-const OUTBOX: u64 = 8;
-const REPEATED: u8 = 128;
-/// The longest body that a program is asked to take.
-const BODY: usize = 16384;
 /// The kind of a record that is pushed.
 const PUSH: u32 = 10;
+/// What is added to the kind of an answer: those of `machines` begin with 0, those of hca_answer with 1.
+const ANSWER: u64 = 16 + 1;
+/// The same where it is given again.
+const AGAIN: u64 = 32 + 1;
+/// The kinds of an outbox, and of a list that begins.
+const OUTBOX: u64 = 48;
+const LIST: u64 = 49;
+
+/// A checksum goes on by a number.
+pub fn mixed(sum: u64, number: u64) -> u64 {
+    sum.wrapping_mul(257).wrapping_add(number)
+}
 
 /// The checksum of bytes.
 pub fn checksum(bytes: &[u8]) -> u64 {
-    bytes.iter().fold(0, |s, b| (s * 257 + u64::from(*b)) % 4_294_967_291)
+    bytes.iter().fold(0, |s, b| mixed(s, u64::from(*b)))
 }
 
-/// Turns events into questions and answers, with the mailboxes where they belong.
+/// An item's bytes.
+fn item(kind: u64, a: u64, b: u64, bytes: &[u8]) -> Vec<u8> {
+    assert!(bytes.len() <= abi::MAILBOX, "an item that the program takes");
+    let kind = u8::try_from(kind).expect("8 bits");
+    [&[kind][..], &a.to_be_bytes(), &b.to_be_bytes(), &(bytes.len() as u16).to_be_bytes(), bytes].concat()
+}
+
+/// The command dword is written.
+fn posts(event: &Event) -> bool {
+    matches!(event, Event::RegisterWrite { bar: BAR_DCS, offset: GO_WRITE, .. })
+}
+
+/// It is read.
+fn reads(event: &Event) -> bool {
+    matches!(event, Event::RegisterRead { bar: BAR_DCS, offset: GO_WRITE, .. })
+}
+
+/// Turns events into questions and answers, with the fences and the mailboxes where they belong.
 struct Reader<'a> {
     notes: &'a Notes,
     posts: usize,
@@ -79,22 +104,25 @@ struct Reader<'a> {
     maps: usize,
     /// The command that is posted names the outbox.
     names: bool,
+    /// A command was just posted, or waited for: a read of the command dword is a poll, and not the first of a command.
+    waits: bool,
 }
 
 impl Reader<'_> {
     fn turns(&mut self, trace: &Trace) -> Turns {
         let mut all: Turns = Vec::new();
+        self.waits = false;
         for event in trace.events() {
             self.note(&event);
-            let done = self.done(&event);
-            let inbox = self.inbox(&event);
-            let Some(mut new) = of_event(event) else {
+            all.extend(self.before(&event).map(|t| (t, 1)));
+            let behind = self.behind(&event);
+            self.waits = posts(&event) || matches!(event, Event::Stall { .. });
+            let Some(new) = of_event(event) else {
                 continue;
             };
-            new.line.insert_str(0, &inbox);
             all.push((new, 1));
             fold(&mut all);
-            all.extend(done.map(|bytes| (outbox(bytes), 1)));
+            all.extend(behind.into_iter().map(|t| (t, 1)));
         }
         all
     }
@@ -111,23 +139,31 @@ impl Reader<'_> {
         }
     }
 
-    /// The outbox, where this read shows that a command which names it is done.
-    fn done(&mut self, event: &Event) -> Option<Vec<u8>> {
-        if !matches!(event, Event::RegisterRead { bar: BAR_DCS, offset: GO_WRITE, .. }) {
-            return None;
-        }
-        self.reads += 1;
-        let now = self.notes.done.iter().find(|(read, _)| *read == self.reads - 1)?;
-        self.names.then(|| now.1.clone())
+    /// The fence before the command dword is written.
+    fn before(&mut self, event: &Event) -> Option<Turn> {
+        posts(event).then(|| {
+            self.posts += 1;
+            self.fence()
+        })
     }
 
-    /// The line that stands before a write of the command dword.
-    fn inbox(&mut self, event: &Event) -> String {
-        if !matches!(event, Event::RegisterWrite { bar: BAR_DCS, offset: GO_WRITE, .. }) {
-            return String::new();
+    /// The fence behind the read that shows a command done, and before it the outbox, where the command names that.
+    fn behind(&mut self, event: &Event) -> Vec<Turn> {
+        if !reads(event) {
+            return Vec::new();
         }
-        self.posts += 1;
-        format!("inbox {:x}\n", checksum(&self.notes.posted[self.posts - 1]))
+        self.reads += 1;
+        let done = self.notes.done.iter().find(|(read, _)| self.waits && *read == self.reads - 1);
+        let turns = |(_, bytes): &(u64, Vec<u8>)| {
+            let outbox = self.names.then(|| outbox(bytes.clone()));
+            outbox.into_iter().chain([self.fence()]).collect()
+        };
+        done.map_or(Vec::new(), turns)
+    }
+
+    /// A fence, with the inbox of the last command: it stays as it was posted until that has ended.
+    fn fence(&self) -> Turn {
+        turn(format!("fence {:x}", checksum(&self.notes.posted[self.posts - 1])), DONE, 0)
     }
 }
 
@@ -136,48 +172,28 @@ fn outbox(mut bytes: Vec<u8>) -> Turn {
     Turn { list: bytes, ..turn(String::new(), OUTBOX, 0) }
 }
 
-/// An answer's bytes.
-fn answer(t: &Turn, times: u64) -> Vec<u8> {
-    let mut bytes = vec![t.kind as u8];
-    if times > 1 {
-        bytes[0] |= REPEATED;
-        bytes.extend((times as u32).to_be_bytes());
-    }
+/// An answer's item, or that of an outbox.
+fn answer(t: &Turn) -> Vec<u8> {
     match t.kind {
-        0 => bytes.extend((t.a as u16).to_be_bytes()),
-        1 => bytes.extend((t.a as u32).to_be_bytes()),
-        2 | 5 => bytes.extend(t.a.to_be_bytes()),
-        6 => bytes.extend([t.a.to_be_bytes(), t.b.to_be_bytes()].concat()),
-        7 | OUTBOX => {
-            bytes.extend((t.list.len() as u16).to_be_bytes());
-            bytes.extend(&t.list);
-        }
-        _ => {}
+        OUTBOX => item(OUTBOX, 0, 0, &t.list),
+        LISTED => item(ANSWER + LISTED, 0, 0, &t.list),
+        kind => item(ANSWER + kind, t.a, t.b, &[]),
     }
-    bytes
 }
 
-/// A call's bytes.
+/// A call's item.
 fn call(c: &Call) -> Vec<u8> {
-    let of = |kind: u32, op: u16, op_mod: u8, in_mod: u32, value: u64, input: &[u8]| {
-        let mut bytes = vec![kind as u8];
-        bytes.extend(op.to_be_bytes());
-        bytes.push(op_mod);
-        bytes.extend(in_mod.to_be_bytes());
-        bytes.extend(value.to_be_bytes());
-        bytes.extend((input.len() as u16).to_be_bytes());
-        bytes.extend(input);
-        bytes
-    };
+    let kind = u64::from(kind(c));
+    let command = |op: u16, op_mod: u8, in_mod: u32| u64::from(op) << 40 | u64::from(op_mod) << 32 | u64::from(in_mod);
     match c {
         Call::Command(Command { form, op, op_mod, in_mod, in_param, input }) => {
             let value = if *form == Form::Imm { *in_param } else { 0 };
-            of(kind(c), *op, *op_mod, *in_mod, value, input)
+            item(kind, command(*op, *op_mod, *in_mod), value, if form.has_input() { input } else { &[] })
         }
-        Call::PushUndo(u) => of(kind(c), u.op, u.op_mod, u.in_mod, u.in_param, &[]),
-        Call::Lend { bytes } => of(kind(c), 0, 0, 0, *bytes, &[]),
-        Call::UndoTo { mark } => of(kind(c), 0, 0, 0, *mark, &[]),
-        Call::Open | Call::Quiesce | Call::Close => of(kind(c), 0, 0, 0, 0, &[]),
+        Call::PushUndo(u) => item(kind, command(u.op, u.op_mod, u.in_mod), u.in_param, &[]),
+        Call::Lend { bytes } => item(kind, 0, *bytes, &[]),
+        Call::UndoTo { mark } => item(kind, 0, *mark, &[]),
+        Call::Open | Call::Quiesce | Call::Close => item(kind, 0, 0, &[]),
     }
 }
 
@@ -199,17 +215,85 @@ fn kind(c: &Call) -> u32 {
     }
 }
 
-/// The questions of a part.
-fn asked(turns: &Turns) -> String {
-    let mut s = String::new();
-    for (t, times) in turns.iter().filter(|(t, _)| t.kind != OUTBOX) {
-        s.push_str(&t.line);
-        s.push('\n');
-        if *times > 1 {
-            let _ = writeln!(s, "times {times:x}");
+/// The words of hca_question for a read or a stall: its kind, and the values, which its line has in their order.
+fn words(line: &str) -> [u64; 4] {
+    let mut parts = line.split(' ');
+    let kind = match parts.next() {
+        Some("config_read16") => 1,
+        Some("config_read32") => 2,
+        Some("reg_read") => 5,
+        Some("stall") => 9,
+        _ => panic!("{line}: no read and no stall"),
+    };
+    let mut value = || parts.next().map_or(0, |v| u64::from_str_radix(v, 16).expect("hexadecimal"));
+    [kind, value(), value(), value()]
+}
+
+/// The checksum of the questions that so many pairs of answers lead to.
+fn led_to(read: &Turn, stall: &Turn, pairs: u64) -> u64 {
+    let two = [words(&stall.line), words(&read.line)].concat();
+    (0..pairs).fold(0, |sum, _| two.iter().fold(sum, |sum, word| mixed(sum, *word)))
+}
+
+/// A list in the making.
+struct Writer {
+    input: Vec<u8>,
+    output: String,
+    /// The next question gets no line: `times` stands for it.
+    covered: bool,
+}
+
+impl Writer {
+    fn new() -> Writer {
+        Writer { input: item(LIST, 0, 0, &[]), output: "list\n".into(), covered: false }
+    }
+
+    /// The questions of a call, and their answers.
+    fn asked(&mut self, mut turns: &[(Turn, u64)]) {
+        while let [(first, _), behind @ ..] = turns {
+            turns = match behind {
+                [(second, times), rest @ ..] if *times > 1 => {
+                    self.pairs(first, second, *times, rest.first().map(|(t, _)| t));
+                    rest
+                }
+                _ => {
+                    self.one(first);
+                    behind
+                }
+            };
         }
     }
-    s
+
+    /// One question and its answer.
+    fn one(&mut self, t: &Turn) {
+        if t.kind != OUTBOX && !std::mem::take(&mut self.covered) {
+            self.output += &[&t.line, "\n"].concat();
+        }
+        self.input.extend(answer(t));
+    }
+
+    /// A read and a stall, more than once; `next` is what is asked behind them.
+    fn pairs(&mut self, read: &Turn, stall: &Turn, times: u64, next: Option<&Turn>) {
+        let same = next.is_some_and(|n| n.line == read.line);
+        let pairs = if same { times - 1 } else { times - 2 };
+        self.one(read);
+        self.one(stall);
+        if pairs > 0 {
+            self.again(read, stall, pairs);
+        }
+        if !same {
+            self.one(read);
+            self.one(stall);
+        }
+    }
+
+    /// The answers of so many pairs by one item, from the read on that is open.
+    fn again(&mut self, read: &Turn, stall: &Turn, pairs: u64) {
+        assert!([WORD, DWORD].contains(&read.kind) && stall.kind == DONE, "{}: a value, and done", read.line);
+        let _ = writeln!(self.output, "{}\ntimes {pairs:x} {:x}", read.line, led_to(read, stall, pairs));
+        self.input.extend(item(AGAIN + read.kind, pairs, read.a, &[]));
+        self.covered = true;
+    }
 }
 
 fn closing(c: Closing) -> u64 {
@@ -267,7 +351,7 @@ fn books(s: &State) -> String {
     let counts = [s.icm.len() as u64, s.lent.len() as u64, s.started.into(), s.original, s.toggle.into()];
     let more = [s.broken.into(), s.silent.into(), s.catas.is_none().into(), bar.into(), offset];
     let lent = s.lent.iter().map(|b| row("lent", &[b.handle.0, b.address, b.pages]));
-    row("books", &[&counts[..], &more].concat()) + &lent.collect::<String>()
+    row("books", &counts) + &row("broken", &more) + &lent.collect::<String>()
 }
 
 /// The words of hca_result.
@@ -300,21 +384,17 @@ fn told(c: &Call, step: &Step) -> String {
     [row("gave", &result(&step.given)), opened, state, undo, boxes].concat()
 }
 
-/// The record of a list, from the Rust's run alone.
+/// A list as it is stored, from the Rust's run alone.
 pub fn record(case: &Case) -> Record {
     let run = rust_noted(case).expect("inside the domain");
     let notes = run.notes.as_ref().expect("noted");
-    let mut reader = Reader { notes, posts: 0, reads: 0, outbox: None, maps: 0, names: false };
-    let (mut calls, mut answers, mut count, mut output) = (Vec::new(), Vec::new(), 0, String::new());
+    let mut reader = Reader { notes, posts: 0, reads: 0, outbox: None, maps: 0, names: false, waits: false };
+    let mut list = Writer::new();
     for (c, step) in case.calls.iter().zip(&run.ran.steps) {
-        let turns = reader.turns(&step.trace);
-        calls.extend(call(c));
-        answers.extend(turns.iter().flat_map(|(t, times)| answer(t, *times)));
-        count += turns.len();
-        output += &[row("call", &[kind(c).into()]), asked(&turns), told(c, step)].concat();
+        list.input.extend(call(c));
+        list.output += &row("call", &[kind(c).into()]);
+        list.asked(&reader.turns(&step.trace));
+        list.output += &told(c, step);
     }
-    let counts = [run.ran.steps.len(), calls.len(), count, answers.len()];
-    let head: Vec<u8> = counts.iter().flat_map(|n| u16::try_from(*n).expect("16 bits").to_be_bytes()).collect();
-    assert!(calls.len() + answers.len() <= BODY, "{}: a record that the program takes", case.name);
-    Record { input: [head, calls, answers].concat(), output }
+    Record { input: list.input, output: list.output }
 }

@@ -9,14 +9,14 @@ use world::trace::{Event, Trace};
 const BODY: usize = 8192;
 
 /// The kinds of an answer.
-const WORD: u64 = 0;
-const DWORD: u64 = 1;
+pub(crate) const WORD: u64 = 0;
+pub(crate) const DWORD: u64 = 1;
 const QWORD: u64 = 2;
-const DONE: u64 = 3;
+pub(crate) const DONE: u64 = 3;
 const FAILED: u64 = 4;
 const HANDLE: u64 = 5;
 const MAPPED: u64 = 6;
-const LIST: u64 = 7;
+pub(crate) const LIST: u64 = 7;
 
 /// A question as a line, and its answer: kind, two values, and the bytes of a list.
 #[derive(Clone, PartialEq, Eq, Debug)]

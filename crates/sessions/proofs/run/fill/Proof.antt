@@ -7,16 +7,16 @@ use Rattle.sessions.proofs.run.fill.Statement.{statement}
 use Rattle.sessions.proofs.run.fill.Tie as tie
 
 abbrev Inv-loop : tie.InvT-loop
-Inv-loop out₀ s i₀ out i = (i ≤ length out₀) × (length out ≡ length out₀)
+Inv-loop out₀ s other i₀ out i = (i ≤ length out₀) × (length out ≡ length out₀)
 
 abbrev μ-loop : tie.MeasureT-loop
-μ-loop out₀ s i₀ out i = length out₀ - i
+μ-loop out₀ s other i₀ out i = length out₀ - i
 
 loop-holds : tie.Need-loop-holds Inv-loop μ-loop
 loop-holds c = (omega arith, refl)
 
-byte-or-zero-requires : tie.Need-byte-or-zero-requires Inv-loop μ-loop
-byte-or-zero-requires c κs = search needs
+byte-or-requires : tie.Need-byte-or-requires Inv-loop μ-loop
+byte-or-requires c κs = search needs
 
 slice-write-out : tie.Need-slice-write-out Inv-loop μ-loop
 slice-write-out c = omega arith
@@ -43,7 +43,7 @@ fill-spec =
     Inv-loop
     μ-loop
     loop-holds
-    byte-or-zero-requires
+    byte-or-requires
     slice-write-out
     add-i
     loop-less
