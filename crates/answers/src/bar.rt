@@ -103,7 +103,8 @@ fn index(q: Asking) -> u64
     }
 }
 
-fn size_known(s: Size) -> u64
+// Whether a size is known, as 1 or 0; and the size, or 0.
+pub fn size_known(s: Size) -> u64
     ensures { λ w. ⌜ w ≡ sizeKnown s ⌝ }
 {
     match s {
@@ -112,7 +113,7 @@ fn size_known(s: Size) -> u64
     }
 }
 
-fn size_in(s: Size) -> u64
+pub fn size_in(s: Size) -> u64
     ensures { λ w. ⌜ w ≡ sizeIn s ⌝ }
 {
     match s {
@@ -121,7 +122,8 @@ fn size_in(s: Size) -> u64
     }
 }
 
-fn how_number(h: How) -> u64
+// How an index was chosen.
+pub fn how_number(h: How) -> u64
     ensures { λ w. ⌜ w ≡ howNumber h ⌝ }
 {
     match h {

@@ -213,35 +213,17 @@ fn parted(s: PartingStep) -> Task {
     }
 }
 
-fn known(size: bars::Size) -> u64 {
-    match size {
-        bars::Size::Known(_) => 1,
-        bars::Size::Unknown => 0,
-    }
-}
-
-fn length(size: bars::Size) -> u64 {
-    match size {
-        bars::Size::Known(n) => n,
-        bars::Size::Unknown => 0,
-    }
-}
-
-fn way(how: bars::How) -> u64 {
-    match how {
-        bars::How::BaseMatches => 0,
-        bars::How::Scan => 1,
-        bars::How::OnlyAnswer => 2,
-        bars::How::NoMatch => 3,
-        bars::How::NoAnswer => 4,
-    }
-}
-
 // The index, whether its size is known, the size, and how it was chosen.
 fn picked(p: bars::Pick) -> End {
     let size = p.size;
     let how = p.how;
-    end_with(0, p.index as u64, known(size), length(size), way(how))
+    end_with(
+        0,
+        p.index as u64,
+        answers::bar::size_known(size),
+        answers::bar::size_in(size),
+        answers::bar::how_number(how),
+    )
 }
 
 fn bar_end(e: Found) -> End {

@@ -3,10 +3,8 @@ use crate::words;
 use bars::BarRange;
 use bars::Begun;
 use bars::Choice;
-use bars::How;
 use bars::Next;
 use bars::Pick;
-use bars::Size;
 
 pub(crate) const END: usize = 19;
 
@@ -109,31 +107,7 @@ fn put_pick(out: &mut [u8], p: Pick) {
     let size = p.size;
     let how = p.how;
     words::put(out, 1, p.index as u64);
-    words::put(out, 2, known(size));
-    words::put(out, 3, length(size));
-    words::put(out, 4, number(how));
-}
-
-fn known(size: Size) -> u64 {
-    match size {
-        Size::Known(_) => 1,
-        Size::Unknown => 0,
-    }
-}
-
-fn length(size: Size) -> u64 {
-    match size {
-        Size::Known(n) => n,
-        Size::Unknown => 0,
-    }
-}
-
-fn number(how: How) -> u64 {
-    match how {
-        How::BaseMatches => 0,
-        How::Scan => 1,
-        How::OnlyAnswer => 2,
-        How::NoMatch => 3,
-        How::NoAnswer => 4,
-    }
+    words::put(out, 2, answers::bar::size_known(size));
+    words::put(out, 3, answers::bar::size_in(size));
+    words::put(out, 4, answers::bar::how_number(how));
 }
