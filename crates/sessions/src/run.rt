@@ -97,34 +97,6 @@ fn fresh(state: &mut [u8], inbox: &mut [u8], outbox: &mut [u8]) -> Place {
     begin()
 }
 
-// The session is called.
-fn called(
-    i: Item,
-    input: &[u8],
-    t: Top,
-    state: &mut [u8],
-    inbox: &mut [u8],
-    outbox: &mut [u8],
-) -> Asked {
-    let mut out = [0u8; 40];
-    text::line(b"call", i.kind as u64);
-    let code = turn_call::called(
-        state,
-        i.kind as u32,
-        item::op(i.a),
-        item::op_mod(i.a),
-        item::in_mod(i.a),
-        i.b,
-        false,
-        input,
-        inbox,
-        outbox,
-        t,
-        &mut out,
-    );
-    asked::read(code, &out)
-}
-
 // The session is handed an answer.
 fn given(
     kind: u32,
@@ -138,6 +110,46 @@ fn given(
 ) -> Asked {
     let mut out = [0u8; 40];
     let code = turn_answer::answered(state, kind, a, b, list, inbox, outbox, t, &mut out);
+    asked::read(code, &out)
+}
+
+// The session is called, or handed an answer.
+fn said(
+    i: Item,
+    list: &[u8],
+    t: Top,
+    state: &mut [u8],
+    inbox: &mut [u8],
+    outbox: &mut [u8],
+) -> Asked {
+    if Item::ANSWER <= i.kind {
+        return given(
+            (i.kind % 16) as u32,
+            i.a,
+            i.b,
+            list,
+            t,
+            state,
+            inbox,
+            outbox,
+        );
+    }
+    let mut out = [0u8; 40];
+    text::line(b"call", i.kind as u64);
+    let code = turn_call::called(
+        state,
+        i.kind as u32,
+        item::op(i.a),
+        item::op_mod(i.a),
+        item::in_mod(i.a),
+        i.b,
+        false,
+        list,
+        inbox,
+        outbox,
+        t,
+        &mut out,
+    );
     asked::read(code, &out)
 }
 
@@ -165,6 +177,14 @@ fn again(i: Item, t: Top, state: &mut [u8], inbox: &mut [u8], outbox: &mut [u8])
     text::end_line();
 }
 
+// The kind of the call that runs once an item of a kind has come.
+fn running(call: u8, kind: u8) -> u8 {
+    if kind < Item::ANSWER {
+        return kind;
+    }
+    call
+}
+
 // A call or an answer, and what it has led to.
 fn onward(
     p: Place,
@@ -174,27 +194,14 @@ fn onward(
     inbox: &mut [u8],
     outbox: &mut [u8],
 ) -> Place {
-    if i.kind < Item::ANSWER {
-        let q = called(i, list, top(p), state, inbox, outbox);
-        told::came(q, i.kind, state, inbox, outbox);
-        return Place {
-            call: i.kind,
-            undo: q.undo,
-            ..p
-        };
+    let call = running(p.call, i.kind);
+    let q = said(i, list, top(p), state, inbox, outbox);
+    told::came(q, call, state, inbox, outbox);
+    Place {
+        call,
+        undo: q.undo,
+        ..p
     }
-    let q = given(
-        (i.kind % 16) as u32,
-        i.a,
-        i.b,
-        list,
-        top(p),
-        state,
-        inbox,
-        outbox,
-    );
-    told::came(q, p.call, state, inbox, outbox);
-    Place { undo: q.undo, ..p }
 }
 
 // What an item asks for; its bytes are the first of those that were read.
@@ -206,17 +213,17 @@ fn turn(
     inbox: &mut [u8],
     outbox: &mut [u8],
 ) -> Place {
-    let n = i.bytes as usize;
-    if room.len() < n {
-        return p;
-    }
-    let list = &room[..n];
     if i.kind == Item::LIST {
         return fresh(state, inbox, outbox);
     }
     if i.kind == Item::PUSH {
         return pushed(p, i);
     }
+    let n = i.bytes as usize;
+    if room.len() < n {
+        return p;
+    }
+    let list = &room[..n];
     if i.kind == Item::OUTBOX {
         fill(outbox, list, 0);
         return p;

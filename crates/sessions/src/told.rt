@@ -114,8 +114,12 @@ fn boxes(inbox: &[u8], outbox: &[u8]) {
     text::end_line();
 }
 
-// A question; or the end of a call of that kind.
-fn asks(q: Asked, call: u8, state: &[u8], inbox: &[u8], outbox: &[u8]) {
+// What a call of that kind, or an answer in it, has led to: a refusal, the call's end, or a question.
+pub(crate) fn came(q: Asked, call: u8, state: &[u8], inbox: &[u8], outbox: &[u8]) {
+    if q.refusal != 0 {
+        text::line(b"refused", q.refusal as u64);
+        return;
+    }
     if q.kind == Asked::FINISHED {
         gave(call, q.undo, state);
         boxes(inbox, outbox);
@@ -126,13 +130,4 @@ fn asks(q: Asked, call: u8, state: &[u8], inbox: &[u8], outbox: &[u8]) {
         return;
     }
     asked::line(q);
-}
-
-// What a call of that kind, or an answer in it, has led to.
-pub(crate) fn came(q: Asked, call: u8, state: &[u8], inbox: &[u8], outbox: &[u8]) {
-    if q.refusal == 0 {
-        asks(q, call, state, inbox, outbox);
-        return;
-    }
-    text::line(b"refused", q.refusal as u64);
 }

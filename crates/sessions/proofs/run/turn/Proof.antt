@@ -4,15 +4,6 @@ use lib.ListN.{length-take}
 use Rattle.sessions.proofs.run.turn.Statement.{statement}
 use Rattle.sessions.proofs.run.turn.Tie as tie
 
-cast-n : tie.Need-cast-n
-cast-n c = search needs
-
-returns : tie.Need-returns
-returns c = search needs
-
-slice-aggregate-list : tie.Need-slice-aggregate-list
-slice-aggregate-list c = simp length-take (omega arith)
-
 fresh-requires : tie.Need-fresh-requires
 fresh-requires c κs = search needs
 
@@ -25,14 +16,23 @@ same-length-2 c = search needs
 same-length-3 : tie.Need-same-length-3
 same-length-3 c = search needs
 
-returns-2 : tie.Need-returns-2
-returns-2 c = search needs
+returns : tie.Need-returns
+returns c = search needs
 
 pushed-requires : tie.Need-pushed-requires
 pushed-requires c κs = search needs
 
+returns-2 : tie.Need-returns-2
+returns-2 c = search needs
+
+cast-n : tie.Need-cast-n
+cast-n c = search needs
+
 returns-3 : tie.Need-returns-3
 returns-3 c = search needs
+
+slice-aggregate-list : tie.Need-slice-aggregate-list
+slice-aggregate-list c = simp length-take (omega arith)
 
 fill-requires : tie.Need-fill-requires
 fill-requires c κs = search needs
@@ -80,16 +80,16 @@ pub turn-spec : {M : Type 1} → statement M
 turn-spec =
     tie.close
     (tie.spec
-    cast-n
-    returns
-    slice-aggregate-list
     fresh-requires
     same-length
     same-length-2
     same-length-3
-    returns-2
+    returns
     pushed-requires
+    returns-2
+    cast-n
     returns-3
+    slice-aggregate-list
     fill-requires
     same-length-4
     returns-4
