@@ -6,7 +6,6 @@ use crate::item::Item;
 use crate::text;
 use crate::told;
 use session::Top;
-ghost use Prim.Native.Nat.{_+_, _≤_, _<_};
 
 // How far a list is: the kind of its last call; and the undo list, which is the caller's: how many records there are, and the two values of each, oldest first.
 struct Place {
