@@ -1,5 +1,4 @@
 // BARs: the address in one, its candidates, a resource descriptor, and the choice of an index, begun and then one answer a call.
-use crate::words;
 use bars::Address;
 use bars::Asking;
 use bars::BarRange;

@@ -4,7 +4,7 @@ ghost use Rattle.dma.specs.declared.Buffer.{Buffer};
 ghost use Rattle.pci.specs.Refusals.{refusal};
 ghost use Rattle.buffer.specs.Buffer.{fault};
 ghost use Rattle.buffer.specs.Steps.{pagesIn, inPhase, allocated, spotted, mapStep, unmapped, freed, makeAsks, makeStepOf, makeOf};
-ghost use Rattle.buffer.specs.Steps.{startFree, toFree, freeOn, freeAsks, freeStepOf};
+ghost use Rattle.buffer.specs.Steps.{startFree, freeOn, freeAsks, freeStepOf};
 ghost use Rattle.buffer.specs.declared.MakeStep.the-variants.{More};
 use dma::Accepted;
 use dma::Buffer;

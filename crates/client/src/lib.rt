@@ -20,9 +20,7 @@ use work::End;
 use work::Task;
 ghost use mathlib.Core.Path.{_≡_};
 ghost use Prim.Native.Nat.{_<_};
-ghost use Rattle.session.specs.Session.{planned};
 ghost use Rattle.session.specs.declared.Client.the-variants.{UndoTo};
-ghost use Rattle.work.specs.declared.End.the-variants.{Cmd};
 ghost use Rattle.client_plan.specs.Client.{takesInput, givesOutput, givesImmediate, inAddress, outAddress, postOf, gaveBy, over, lesser};
 ghost use Rattle.client_plan.specs.Plan.{restPlan, fillFor, commandPlan, lendPlan, undoSend, undoPlan, undoToPlan, commandEnded, lendEnded, undoEnded, clientPlan};
 

@@ -1,7 +1,7 @@
 // Memory that the card reads and writes: the record of a buffer, the blocks that a range is cut into, and the page list of one mailbox.
 ghost use mathlib.Core.Path.{_≡_};
 ghost use Prim.Native.Nat.{_+_, _-_, _*_, _^_, _≤_, _<_, min};
-ghost use lib.ListN.{length, replicate};
+ghost use lib.ListN.{length};
 ghost use Rattle.dma.specs.Buffers.{pagesFor, pageCount, acceptAt, accepted, endsWithin};
 ghost use Rattle.dma.specs.Blocks.{virtOf, stands, powerOf, afterOf, takenOf, cutOf, piece, wrapped, startAt, started};
 ghost use Rattle.dma.specs.PageList.{wordOf, entryAt, listAt, firstBlocks, listedOf, fillAt, filledAt, pageList};

@@ -10,10 +10,10 @@ ghost use Prim.Native.Nat.{_+_, _≤_};
 ghost use lib.Dec.{eqb};
 ghost use Rattle.fields.specs.Outcome.{pick};
 ghost use Rattle.reply.specs.Capability.{bit};
-ghost use lib.ListN.{length, replicate};
+ghost use lib.ListN.{length};
 ghost use Rattle.fields.specs.Fields.{written};
 ghost use Rattle.init.specs.Inner.{Within};
-ghost use Rattle.init.specs.Init.{field, putAll, mailboxOf, filledBy, fillOf, fieldsOf, flagsOf, initOf, logOf, worth, modStatCfg};
+ghost use Rattle.init.specs.Init.{field, putAll, filledBy, fillOf, fieldsOf, flagsOf, initOf, logOf, worth, modStatCfg};
 
 // A field of a mailbox: a big-endian number.
 pub struct Field {

@@ -4,7 +4,7 @@ use reply::DevCap;
 ghost use mathlib.Core.Path.{_≡_};
 ghost use mathlib.Core.Bool.{_&&_};
 ghost use Rattle.fields.specs.Outcome.{valueOr, numberOf};
-ghost use Rattle.reply.specs.Capability.{capability, capabilityOf, noCaps, bit as bitIn};
+ghost use Rattle.reply.specs.Capability.{capabilityOf, noCaps, bit as bitIn};
 ghost use Rattle.reply.specs.Replies.{queryFwOf, fwHeld, queryPortOf, noPort, queryFuncOf};
 ghost use Rattle.answers.specs.Words.{said, answer};
 ghost use Rattle.answers.specs.Replies.{sizeFrom, codeOf, capWords, fwWords, portWords, funcWords};

@@ -3,7 +3,7 @@ use answers::replies;
 use answers::words;
 ghost use mathlib.Core.Path.{_≡_};
 ghost use lib.Count.{trailingZeros};
-ghost use Rattle.reply.specs.Capability.{capability, capabilityOf};
+ghost use Rattle.reply.specs.Capability.{capabilityOf};
 ghost use Rattle.layout.specs.Layout.{pow2Of};
 ghost use Rattle.answers.specs.Words.{said, answer};
 ghost use Rattle.answers.specs.Replies.{sizeFrom};

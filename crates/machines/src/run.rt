@@ -10,7 +10,7 @@ use crate::record::Head;
 use crate::record::Stored;
 use crate::start;
 use crate::text;
-ghost use Prim.Native.Nat.{_≤_, _<_};
+ghost use Prim.Native.Nat.{_<_};
 use pci::Answer;
 
 // How far a run is: the next answer, how often the pair that it ends was given, the last two questions, and whether the answers ran out.

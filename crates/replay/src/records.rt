@@ -5,7 +5,7 @@ use crate::field;
 use crate::memory;
 use crate::tables;
 ghost use mathlib.Core.Path.{_≡_};
-ghost use Prim.Native.Nat.{_+_, _≤_, _<_};
+ghost use Prim.Native.Nat.{_+_, _<_};
 ghost use lib.ListN.{length};
 
 pub(crate) struct Head {

@@ -12,7 +12,7 @@ ghost use lib.Dec.{eqb};
 ghost use Rattle.fields.specs.Fields.{be};
 ghost use Rattle.fields.specs.Outcome.{valueOr, numberOf, pick};
 ghost use Rattle.reply.specs.Replies.{catasBar, fwOf, noFw, twoOrThree, queryFw, queryFwOf, fwHeld};
-ghost use Rattle.reply.specs.Replies.{speedOf, macOf, portOf, noPort, queryPort, queryPortOf, funcOf, queryFunc, queryFuncOf};
+ghost use Rattle.reply.specs.Replies.{macOf, portOf, noPort, queryPort, queryPortOf, queryFunc, queryFuncOf};
 ghost use Rattle.reply.specs.Capability.{capability, capabilityOf, devCapOf, entriesOf, noCaps, uarArea, aboveSize, oneOrTwo, refusedBy, refusedCaps, bit};
 
 // The kinds of ICM table, by index, and what is fixed for each.

@@ -19,7 +19,7 @@ use work::End;
 use work::Task;
 use work::Work;
 ghost use mathlib.Core.Path.{_≡_};
-ghost use Prim.Native.Nat.{_+_, _*_, _%_, _^_, _<_};
+ghost use Prim.Native.Nat.{_+_, _*_, _%_, _<_};
 ghost use Rattle.session.specs.Session.{noBooks, noInfo, fresh, starts, bookkeeps, informs, sendsOf, tookOf, catasFor, endSeen};
 ghost use Rattle.session.specs.Session.{immOf, withInOf, withOutOf, deviceOf, bufferOf, bufferAt, icmAt, bytesIn, breaksOf, silencedOf, lentTo};
 ghost use Rattle.session.specs.Failures.{faultOf, failureOf, needsReset, immediateOf, noMemory, madeIn, brokenBy};

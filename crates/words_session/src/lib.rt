@@ -14,8 +14,7 @@ use words_books::Ledger;
 use words_info::Told;
 use work::Task;
 use work::Work;
-ghost use mathlib.Core.Bool.{true, false};
-ghost use mathlib.Core.List.{_++_};
+ghost use mathlib.Core.Bool.{false};
 ghost use mathlib.Core.Path.{_≡_};
 ghost use Prim.Native.Nat.{_+_, _*_, _≤_};
 ghost use lib.ListN.{length};
@@ -27,8 +26,8 @@ ghost use Rattle.words_stage.specs.Coding.{stageOf, stageWords};
 ghost use Rattle.words_books.specs.Coding.{ledgerOf, ledgerWords, bufferWords};
 ghost use Rattle.words_info.specs.Coding.{toldOf, toldWords, capOf, capWords, portOf, portWords};
 ghost use Rattle.words_beside.specs.Coding.{resetOf, resetWords, findOf, findWords};
-ghost use Rattle.words_session.specs.Image.{icmOf, icmWords, bufferIn, ledgerFor, toldFor, workIn, listsIn, booksIn, infoIn, sessionIn};
-ghost use Rattle.words_session.specs.Image.{standWords, infoWords, tailWords, behindWords, sessionWords, putSession};
+ghost use Rattle.words_session.specs.Image.{icmOf, icmWords, bufferIn, ledgerFor, toldFor, workIn, booksIn, infoIn, sessionIn};
+ghost use Rattle.words_session.specs.Image.{standWords, infoWords, tailWords, behindWords};
 ghost use Rattle.words_session.specs.Image.{infoStands, workStands, countsFit, stands, decodeOf, wroteOf, encodedIn, keptOf, doneOf};
 
 // Whether bytes are a session: there are too few of them, or they are none.

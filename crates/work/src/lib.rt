@@ -25,7 +25,6 @@ use uar::BarEnding;
 use uar::FindBar;
 use uar::Found;
 ghost use mathlib.Core.Path.{_≡_};
-ghost use Rattle.pci.specs.Views.{dwordOf};
 ghost use Rattle.work.specs.Work.{resting, onTask, endTask, lookStep, workAsks, workStepOf};
 ghost use Rattle.work.specs.Work.{attrWork, claimWork, makeWork, freeWork, cmdWork, partWork, resetWork, barWork};
 
