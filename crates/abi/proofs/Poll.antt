@@ -51,7 +51,7 @@ stalls (o.Read n) = n
 stalls o.Other = 0
 
 -- a test that leads on was true
-leads : (b : Bool) (z y : Onward) → (_≡_ {A = ℕ} (tag y) 2 → ⊥) → pick b z o.Other ≡ y → (b ≡ true) × (z ≡ y)
+pub leads : (b : Bool) (z y : Onward) → (_≡_ {A = ℕ} (tag y) 2 → ⊥) → pick b z o.Other ≡ y → (b ≡ true) × (z ≡ y)
 leads true z y h e = (refl, e)
 leads false z y h e = absurd (h (sym (ap tag e)))
 
@@ -181,7 +181,7 @@ cmd-reads c (ph.Low i) true n x h e = absurd (unread e)
 cmd-reads c ph.Catas true n x h e = absurd (unread e)
 cmd-reads c f false n x h e = absurd (unread e)
 
-task-stalls : (k : Task) (n : ℕ) (x : Answer) → pollOn (pollOf (taskWords k)) x ≡ o.Stall n → Reading k n x
+pub task-stalls : (k : Task) (n : ℕ) (x : Answer) → pollOn (pollOf (taskWords k)) x ≡ o.Stall n → Reading k n x
 task-stalls (t.Cmd c) n x e = cmd-stalls c (c .phase) (leb (c .stalls) 4294967295) n x refl e
 task-stalls t.Rest n x e = absurd (wrong e)
 task-stalls (t.Attr y) n x e = absurd (wrong e)
@@ -193,7 +193,7 @@ task-stalls (t.Free y) n x e = absurd (wrong e)
 task-stalls t.Look n x e = absurd (wrong e)
 task-stalls (t.Part y) n x e = absurd (wrong e)
 
-task-reads : (k : Task) (n : ℕ) (x : Answer) → pollOn (pollOf (taskWords k)) x ≡ o.Read n → Waiting k n x
+pub task-reads : (k : Task) (n : ℕ) (x : Answer) → pollOn (pollOf (taskWords k)) x ≡ o.Read n → Waiting k n x
 task-reads (t.Cmd c) n x e = cmd-reads c (c .phase) (leb (c .stalls) 4294967295) n x refl e
 task-reads t.Rest n x e = absurd (unread e)
 task-reads (t.Attr y) n x e = absurd (unread e)
@@ -258,12 +258,12 @@ not-true : (b : Bool) → not b ≡ true → b ≡ false
 not-true true e = absurd (let z : _≡_ {A = ℕ} 0 1 = ap (λ (x : Bool). pick x 1 0) e in omega arith)
 not-true false e = refl
 
-record Ready (s i b : List ℕ) (n : ℕ) (w : List ℕ) : Type 0 where
-  enough : 3336 ≤ length s
-  lent : eqb (length i) 4096 && (eqb (length b) 4096 && leb n 256) ≡ true
-  room : ltb (length w) 40 ≡ false
+pub record Ready (s i b : List ℕ) (n : ℕ) (w : List ℕ) : Type 0 where
+  pub enough : 3336 ≤ length s
+  pub lent : eqb (length i) 4096 && (eqb (length b) 4096 && leb n 256) ≡ true
+  pub room : ltb (length w) 40 ≡ false
 
-ready : (s i b : List ℕ) (n : ℕ) (w : List ℕ) → readyFor s i b n w ≡ true → Ready s i b n w
+pub ready : (s i b : List ℕ) (n : ℕ) (w : List ℕ) → readyFor s i b n w ≡ true → Ready s i b n w
 ready s i b n w e =
     let q = and-true (not (ltb (length s) 3336)) (eqb (length i) 4096 && (eqb (length b) 4096 && (not (ltb 256 n) && leb 40 (length w)))) e in
     let q1 = and-true (eqb (length i) 4096) (eqb (length b) 4096 && (not (ltb 256 n) && leb 40 (length w))) (q .1) in
@@ -277,10 +277,10 @@ ready s i b n w e =
     }
 
 -- THE ANSWER by the whole session, where its task goes on and no mailbox is zeroed
-record Goes (x : Session) (v : Answer) (r : List ℕ) (k : Task) : Type 0 where
-  suits : suitsOf (asksOf x) v ≡ true
-  still : isAllocate (asksOf x) ≡ false
-  next : workStepOf (x .work) v r ≡ record { work = record { task = k; reset = x .work .reset; find = x .work .find }; ending = e.Going }
+pub record Goes (x : Session) (v : Answer) (r : List ℕ) (k : Task) : Type 0 where
+  pub suits : suitsOf (asksOf x) v ≡ true
+  pub still : isAllocate (asksOf x) ≡ false
+  pub next : workStepOf (x .work) v r ≡ record { work = record { task = k; reset = x .work .reset; find = x .work .find }; ending = e.Going }
 
 goes-whole : (x : Session) (v : Answer) (r : List ℕ) (u : Top) (s i b w : List ℕ) (k : Task) → Bytes s → decodeOf s ≡ value x → Ready s i b (u .count) w
     → Goes x v r k → after 0 (putHot s k) i b (turnIn w (asksOf (withTask x k)) (u .count)) ≡ answered v r u s i b w
@@ -292,17 +292,17 @@ goes-whole x v r u s i b w k bs d y g =
     sym (simp (d, le-leb (x .books .lists .ranges) 14 (n .0), le-leb (x .books .lists .lends) 64 (n .1), g .suits, y .lent, y .room, g .next, g .still, wrote))
 
 -- the words of the task
-task-words : (s : List ℕ) (x : Session) → decodeOf s ≡ value x → wordsIn s 0 13 ≡ taskWords (x .work .task)
+pub task-words : (s : List ℕ) (x : Session) → decodeOf s ≡ value x → wordsIn s 0 13 ≡ taskWords (x .work .task)
 task-words s x d = let h = given s x d in parts-of s x (h .reads) (h .stand) .task
 
-task-poll : (s : List ℕ) (x : Session) → decodeOf s ≡ value x → 3336 ≤ length s → pollIn s ≡ pollOf (taskWords (x .work .task))
+pub task-poll : (s : List ℕ) (x : Session) → decodeOf s ≡ value x → 3336 ≤ length s → pollIn s ≡ pollOf (taskWords (x .work .task))
 unfolding wordsIn
 task-poll s x d h =
     let near : pollIn s ≡ pollOf (wordsIn s 0 13) = rw (le-leb 80 (length s) (omega arith)) refl in
     near ∙ ap pollOf (task-words s x d)
 
 -- POLLED BYTES THAT HOLD A SESSION: an answer by the poll's own words is the answer by the whole session
-reading-goes : (x : Session) (v : Answer) (r : List ℕ) (n : ℕ) (q : Reading (x .work .task) n v) → Goes x v r (t.Cmd (inPhase (q .cmd) ph.Wait))
+pub reading-goes : (x : Session) (v : Answer) (r : List ℕ) (n : ℕ) (q : Reading (x .work .task) n v) → Goes x v r (t.Cmd (inPhase (q .cmd) ph.Wait))
 unfolding cmdAsks cmdStepOf
 reading-goes x v r n q = record {
   suits = simp (q .is, q .phase, q .says .is);
@@ -310,7 +310,7 @@ reading-goes x v r n q = record {
   next = simp (q .is, q .phase, q .says .is, q .says .pending, q .says .early);
 }
 
-waiting-goes : (x : Session) (v : Answer) (r : List ℕ) (n : ℕ) (q : Waiting (x .work .task) n v) → Goes x v r (t.Cmd (stalledBy (q .cmd) n))
+pub waiting-goes : (x : Session) (v : Answer) (r : List ℕ) (n : ℕ) (q : Waiting (x .work .task) n v) → Goes x v r (t.Cmd (stalledBy (q .cmd) n))
 unfolding cmdAsks cmdStepOf
 waiting-goes x v r n q = record {
   suits = simp (q .is, q .phase, q .says .is);
@@ -318,13 +318,22 @@ waiting-goes x v r n q = record {
   next = simp (q .is, q .phase, q .says .is, q .says .early, q .says .same);
 }
 
+-- the bytes that a poll leaves are those with its new task
+pub stall-hot : (s : List ℕ) (x : Session) (c : Cmd) → Bytes s → decodeOf s ≡ value x → 3336 ≤ length s → x .work .task ≡ t.Cmd c → c .phase ≡ ph.Poll → stallIn s ≡ putHot s (t.Cmd (inPhase c ph.Wait))
+stall-hot s x c bs d h is phase = rw (le-leb 16 (length s) (omega arith)) (sym (stall-bytes s c bs phase (task-words s x d ∙ ap taskWords is)))
+
+pub read-hot : (s : List ℕ) (x : Session) (c : Cmd) (n : ℕ) → Bytes s → decodeOf s ≡ value x → 3336 ≤ length s → x .work .task ≡ t.Cmd c → c .phase ≡ ph.Wait → readIn s n ≡ putHot s (t.Cmd (stalledBy c n))
+read-hot s x c n bs d h is phase =
+    let z = putWords s 1 (4 ∷ []) in
+    let l = length-words s 1 (4 ∷ []) in
+    rw (le-leb 16 (length s) (omega arith), le-leb 80 (length z) (omega arith)) (sym (read-bytes s c n bs phase (task-words s x d ∙ ap taskWords is)))
+
 stalled-is : (s i b w : List ℕ) (x : Session) (v : Answer) (r : List ℕ) (u : Top) (n : ℕ) → Bytes s → decodeOf s ≡ value x → Ready s i b (u .count) w
     → Reading (x .work .task) n v → onwardBy (o.Stall n) v r u s i b w ≡ answered v r u s i b w
 unfolding cmdAsks
 stalled-is s i b w x v r u n bs d y q =
     let c = q .cmd in
-    let bytes : stallIn s ≡ putHot s (t.Cmd (inPhase c ph.Wait)) =
-    rw (le-leb 16 (length s) (let h = y .enough in omega arith)) (sym (stall-bytes s c bs (q .phase) (task-words s x d ∙ ap taskWords (q .is)))) in
+    let bytes = stall-hot s x c bs d (y .enough) (q .is) (q .phase) in
     rw (bytes, sym (q .says .same)) (goes-whole x v r u s i b w (t.Cmd (inPhase c ph.Wait)) bs d y (reading-goes x v r n q))
 
 read-is : (s i b w : List ℕ) (x : Session) (v : Answer) (r : List ℕ) (u : Top) (n : ℕ) → Bytes s → decodeOf s ≡ value x → Ready s i b (u .count) w
@@ -332,11 +341,7 @@ read-is : (s i b w : List ℕ) (x : Session) (v : Answer) (r : List ℕ) (u : To
 unfolding cmdAsks
 read-is s i b w x v r u n bs d y q =
     let c = q .cmd in
-    let z = putWords s 1 (4 ∷ []) in
-    let l = length-words s 1 (4 ∷ []) in
-    let bytes : readIn s n ≡ putHot s (t.Cmd (stalledBy c n)) =
-    rw (le-leb 16 (length s) (let h = y .enough in omega arith), le-leb 80 (length z) (let h = y .enough in omega arith))
-    (sym (read-bytes s c n bs (q .phase) (task-words s x d ∙ ap taskWords (q .is)))) in
+    let bytes = read-hot s x c n bs d (y .enough) (q .is) (q .phase) in
     rw (bytes) (goes-whole x v r u s i b w (t.Cmd (stalledBy c n)) bs d y (waiting-goes x v r n q))
 
 pub poll-is-whole : (v : Answer) (r : List ℕ) (u : Top) (s i b w : List ℕ) (x : Session) → Bytes s → decodeOf s ≡ value x → answer v r u s i b w ≡ answered v r u s i b w

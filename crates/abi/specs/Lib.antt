@@ -1,3 +1,4 @@
 pub mod Calls
+pub mod Kept
 pub mod Readers
 pub mod Turns

@@ -8,6 +8,7 @@ ghost use Rattle.undo.specs.List.{undoOf, topOf, pushOf, pushedIn};
 ghost use Rattle.abi.specs.Turns as t;
 ghost use Rattle.abi.specs.Readers as r;
 ghost use Rattle.abi.specs.Calls as c;
+ghost use Rattle.abi.specs.Kept as k;
 
 // A session that was never opened.
 #[no_mangle]
@@ -35,7 +36,7 @@ pub extern "C" fn hca_call(
     count: usize,
     out: &mut [u8],
 ) -> u32
-    ensures { λ r. ⌜ t.after r (now (state .exit)) (now (inbox .exit)) (now (outbox .exit)) (now (out .exit)) ≡ c.call kind op «op_mod» «in_mod» value (now (input .entry)) (now (list .entry)) count (now (state .entry)) (now (inbox .entry)) (now (outbox .entry)) (now (out .entry)) ⌝ }
+    ensures { λ r. ⌜ (t.after r (now (state .exit)) (now (inbox .exit)) (now (outbox .exit)) (now (out .exit)) ≡ c.call kind op «op_mod» «in_mod» value (now (input .entry)) (now (list .entry)) count (now (state .entry)) (now (inbox .entry)) (now (outbox .entry)) (now (out .entry))) × k.Holds (now (state .entry)) (now (state .exit)) (k.callNow kind op «op_mod» «in_mod» value (now (input .entry)) (now (list .entry)) count (now (inbox .entry)) (now (outbox .entry)) (now (out .entry))) ⌝ }
 {
     let top = undo::top(list, count);
     let reserved = undo::reserved_above(list, turn_call::mark_of(value), count);
@@ -69,7 +70,7 @@ pub extern "C" fn hca_answer(
     count: usize,
     out: &mut [u8],
 ) -> u32
-    ensures { λ r. ⌜ t.after r (now (state .exit)) (now (inbox .exit)) (now (outbox .exit)) (now (out .exit)) ≡ c.told kind a b (now (resource .entry)) (topOf (now (list .entry)) count) (now (state .entry)) (now (inbox .entry)) (now (outbox .entry)) (now (out .entry)) ⌝ }
+    ensures { λ r. ⌜ (t.after r (now (state .exit)) (now (inbox .exit)) (now (outbox .exit)) (now (out .exit)) ≡ c.told kind a b (now (resource .entry)) (topOf (now (list .entry)) count) (now (state .entry)) (now (inbox .entry)) (now (outbox .entry)) (now (out .entry))) × k.Holds (now (state .entry)) (now (state .exit)) (k.answerNow kind a b (now (resource .entry)) (now (list .entry)) count (now (inbox .entry)) (now (outbox .entry)) (now (out .entry))) ⌝ }
 {
     let top = undo::top(list, count);
     turn_answer::answered(state, kind, a, b, resource, inbox, outbox, top, out)

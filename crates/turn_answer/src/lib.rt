@@ -9,8 +9,10 @@ use session::Top;
 use words_calls::Heard;
 use words_session::Kept;
 ghost use mathlib.Core.Path.{_≡_};
+ghost use Rattle.words_calls.specs.Calls.{heardOf};
 ghost use Rattle.abi.specs.Turns as t;
 ghost use Rattle.abi.specs.Calls as c;
+ghost use Rattle.abi.specs.Kept as k;
 
 // An answer on a session that was read: 20 where it is not the time for it, then 21 where there is no room for what it says.
 fn answer_of(
@@ -24,6 +26,7 @@ fn answer_of(
     out: &mut [u8],
 ) -> u32
     ensures { λ r. ⌜ t.after r (now (state .exit)) (now (inbox .exit)) (now (outbox .exit)) (now (out .exit)) ≡ t.answerKnown s a (now (resource .entry)) top (now (state .entry)) (now (inbox .entry)) (now (outbox .entry)) (now (out .entry)) ⌝ }
+    ensures { λ _. ⌜ k.Keeps (now (state .entry)) (now (state .exit)) s (k.answerNext a (now (resource .entry)) top (now (inbox .entry)) (now (outbox .entry)) (now (out .entry)) s) ⌝ }
 {
     if fw_begin::answerable(s, a) {
         if out.len() < turns::TURN {
@@ -46,6 +49,7 @@ pub fn answer_bytes(
     out: &mut [u8],
 ) -> u32
     ensures { λ r. ⌜ t.after r (now (state .exit)) (now (inbox .exit)) (now (outbox .exit)) (now (out .exit)) ≡ t.answered a (now (resource .entry)) top (now (state .entry)) (now (inbox .entry)) (now (outbox .entry)) (now (out .entry)) ⌝ }
+    ensures { λ _. ⌜ k.Holds (now (state .entry)) (now (state .exit)) (k.answerNext a (now (resource .entry)) top (now (inbox .entry)) (now (outbox .entry)) (now (out .entry))) ⌝ }
 {
     let d = words_session::decode(state);
     let kept = d.outcome;
@@ -68,6 +72,7 @@ fn answer_told(
     out: &mut [u8],
 ) -> u32
     ensures { λ r. ⌜ t.after r (now (state .exit)) (now (inbox .exit)) (now (outbox .exit)) (now (out .exit)) ≡ c.answer a (now (resource .entry)) top (now (state .entry)) (now (inbox .entry)) (now (outbox .entry)) (now (out .entry)) ⌝ }
+    ensures { λ _. ⌜ k.Holds (now (state .entry)) (now (state .exit)) (k.answerNext a (now (resource .entry)) top (now (inbox .entry)) (now (outbox .entry)) (now (out .entry))) ⌝ }
 {
     match poll::leads(state, a, inbox, outbox, top.count, out) {
         Onward::Stall(stalls) => poll::stall_next(state, stalls, top.count, out),
@@ -88,7 +93,7 @@ pub fn answered(
     top: Top,
     out: &mut [u8],
 ) -> u32
-    ensures { λ r. ⌜ t.after r (now (state .exit)) (now (inbox .exit)) (now (outbox .exit)) (now (out .exit)) ≡ c.told kind a b (now (resource .entry)) top (now (state .entry)) (now (inbox .entry)) (now (outbox .entry)) (now (out .entry)) ⌝ }
+    ensures { λ r. ⌜ (t.after r (now (state .exit)) (now (inbox .exit)) (now (outbox .exit)) (now (out .exit)) ≡ c.told kind a b (now (resource .entry)) top (now (state .entry)) (now (inbox .entry)) (now (outbox .entry)) (now (out .entry))) × k.Holds (now (state .entry)) (now (state .exit)) (k.heardNext (heardOf kind a b) (now (resource .entry)) top (now (inbox .entry)) (now (outbox .entry)) (now (out .entry))) ⌝ }
 {
     match words_calls::answer_from(kind, a, b) {
         Heard::Told(x) => answer_told(state, x, resource, inbox, outbox, top, out),

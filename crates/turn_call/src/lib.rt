@@ -11,6 +11,7 @@ use words_session::Kept;
 ghost use mathlib.Core.Path.{_≡_};
 ghost use Rattle.abi.specs.Turns as t;
 ghost use Rattle.abi.specs.Calls as c;
+ghost use Rattle.abi.specs.Kept as k;
 
 // A call on a session that was read: 20 where it is not the time for it, then 21 where there is no room for what it says.
 fn call_of(
@@ -24,6 +25,7 @@ fn call_of(
     out: &mut [u8],
 ) -> u32
     ensures { λ r. ⌜ t.after r (now (state .exit)) (now (inbox .exit)) (now (outbox .exit)) (now (out .exit)) ≡ t.callKnown s call (now (input .entry)) top (now (state .entry)) (now (inbox .entry)) (now (outbox .entry)) (now (out .entry)) ⌝ }
+    ensures { λ _. ⌜ k.Keeps (now (state .entry)) (now (state .exit)) s (k.callNext call (now (input .entry)) top (now (inbox .entry)) (now (outbox .entry)) (now (out .entry)) s) ⌝ }
 {
     if calls::callable(s, call) {
         if out.len() < turns::TURN {
@@ -46,6 +48,7 @@ pub fn call_bytes(
     out: &mut [u8],
 ) -> u32
     ensures { λ r. ⌜ t.after r (now (state .exit)) (now (inbox .exit)) (now (outbox .exit)) (now (out .exit)) ≡ t.called call (now (input .entry)) top (now (state .entry)) (now (inbox .entry)) (now (outbox .entry)) (now (out .entry)) ⌝ }
+    ensures { λ _. ⌜ k.Holds (now (state .entry)) (now (state .exit)) (k.callNext call (now (input .entry)) top (now (inbox .entry)) (now (outbox .entry)) (now (out .entry))) ⌝ }
 {
     let d = words_session::decode(state);
     let kept = d.outcome;
@@ -112,7 +115,7 @@ pub fn called(
     top: Top,
     out: &mut [u8],
 ) -> u32
-    ensures { λ r. ⌜ t.after r (now (state .exit)) (now (inbox .exit)) (now (outbox .exit)) (now (out .exit)) ≡ c.made kind op «op_mod» «in_mod» value reserved (now (input .entry)) top (now (state .entry)) (now (inbox .entry)) (now (outbox .entry)) (now (out .entry)) ⌝ }
+    ensures { λ r. ⌜ (t.after r (now (state .exit)) (now (inbox .exit)) (now (outbox .exit)) (now (out .exit)) ≡ c.made kind op «op_mod» «in_mod» value reserved (now (input .entry)) top (now (state .entry)) (now (inbox .entry)) (now (outbox .entry)) (now (out .entry))) × k.Holds (now (state .entry)) (now (state .exit)) (k.wantedNext (c.callFrom kind op «op_mod» «in_mod» value reserved) (now (input .entry)) top (now (inbox .entry)) (now (outbox .entry)) (now (out .entry))) ⌝ }
 {
     match call_from(kind, op, op_mod, in_mod, value, reserved) {
         Wanted::Known(x) => call_bytes(state, x, input, inbox, outbox, top, out),

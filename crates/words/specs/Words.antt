@@ -57,3 +57,8 @@ Below m w = (i : ℕ) → at w i < m
 unfoldable pub cut : ℕ → List ℕ → (i n : ℕ) → List ℕ
 cut m w i zero = []
 cut m w i (suc n) = at w i % m ∷ cut m w (i + 1) n
+
+-- each of a list
+unfoldable pub Each : {A : Type 0} → (A → Type 0) → List A → Type 0
+Each P [] = Unit {0}
+Each P (x ∷ xs) = P x × Each P xs

@@ -1,3 +1,4 @@
 pub mod Parts
 pub mod Trip
+pub mod Typed
 pub mod Poll

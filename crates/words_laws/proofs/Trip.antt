@@ -6,7 +6,7 @@ use mathlib.Core.List.{List, [], _∷_, _++_}
 use native.Mathlib.Omega.{arith}
 use lib.ListN.{length, getD}
 use Rattle.fields.specs.Outcome.{Outcome, value, refused, pick}
-use Rattle.words.specs.Words.{wordsIn, putWords, sameWords, flat, rowsIn}
+use Rattle.words.specs.Words.{wordsIn, putWords, sameWords, flat, rowsIn, Each}
 use Rattle.words.proofs.Laws.{Words, words-small, words-put, length-words, words-after}
 use Rattle.words_task.specs.Coding.{taskWords, taskOf}
 use Rattle.words_task.proofs.Trip.{task-back, task-small, task-length}
@@ -26,7 +26,7 @@ use Rattle.session.specs.declared.Info.{Info}
 use Rattle.dma.specs.declared.Buffer.{Buffer}
 use Rattle.work.specs.declared.Task.{Task}
 use Rattle.session.specs.declared.Session.{Session}
-use Rattle.words_laws.specs.Kept.{Each, IcmFits, Fits}
+use Rattle.words_laws.specs.Kept.{IcmFits, Fits}
 use Rattle.words_laws.proofs.Parts.{Parts, session-length, apart, parts-stand}
 
 flat-small : {A : Type 0} (P : A → Type 0) (f : A → List ℕ) → ((x : A) → P x → Words (f x)) → (xs : List A) → Each P xs → Words (flat f xs)

@@ -2,8 +2,8 @@
 -- word), `poll-alone` and `polled` (the task alone), `stays` and `hot-stays` (other bytes are left) of proofs/.
 use Prim.Native.Nat.{ℕ, _^_, _≤_, _<_}
 use mathlib.Core.Path.{_≡_}
-use mathlib.Core.List.{List, [], _∷_}
 use lib.ListN.{length}
+use Rattle.words.specs.Words.{Each}
 use Rattle.words_task.specs.Fits.{TaskFits}
 use Rattle.words_stage.specs.Fits.{StageFits}
 use Rattle.words_books.specs.Fits.{BufferFits, LedgerFits}
@@ -13,11 +13,6 @@ use Rattle.words_session.specs.Image.{ledgerFor, toldFor}
 use Rattle.work.specs.declared.Task.{Task}
 use Rattle.session.specs.declared.Icm.{Icm}
 use Rattle.session.specs.declared.Session.{Session}
-
--- each of a list
-unfoldable pub Each : {A : Type 0} → (A → Type 0) → List A → Type 0
-Each P [] = Unit {0}
-Each P (x ∷ xs) = P x × Each P xs
 
 pub record IcmFits (x : Icm) : Type 0 where
   pub virt : x .virt < 2 ^ 64

@@ -1,6 +1,6 @@
 -- `linkage::hca_answer` meets its contract: a walk of its MIR, by hand. What it takes of the caller's list it takes by `undo::top`, and the covered
 -- function `answered` does the rest. All that the proof knows of them is that each meets its contract. Assumes nothing.
-use mathlib.Core.Path.{_≡_, refl, sym, ap, _∙_}
+use mathlib.Core.Path.{_≡_, refl, subst}
 use Prim.Native.Nat.{ℕ, _<_, _^_}
 use mathlib.Core.Bool.{Bool}
 use mathlib.Core.List.{List, [], _∷_}
@@ -48,6 +48,8 @@ use Rattle.undo.proofs.Undo as U
 use Rattle.abi.specs.Turns as turns
 use Rattle.abi.specs.Turns.{After}
 use Rattle.abi.specs.Calls.{told}
+use Rattle.abi.specs.Kept.{Holds, heardNext}
+use Rattle.words_calls.specs.Calls.{heardOf}
 use Rattle.undo.proofs.top as topping
 use Rattle.undo.proofs.top.Symbol as topping-def
 use Rattle.undo.proofs.top.Symbol.{name as #undo·top}
@@ -80,11 +82,12 @@ module _ {M : Type 1} (𝓤 : URA M) (H : Heap 𝓤) (A : Atoms 𝓤) (W : Given
   abbrev after : Top → After
   after t = told kind a b (now resource) t (now state) (now inbox) (now outbox) (now out)
 
-  abbrev left : After
-  left = after (topOf undos count)
+  -- what is said of the number and of the last bytes
+  abbrev Said : Top → (r : ℕ) → (state-z inbox-z outbox-z out-z : List ℕ) → Type 0
+  Said t r state-z inbox-z outbox-z out-z = (turns.after r state-z inbox-z outbox-z out-z ≡ after t) × Holds (now state) state-z (heardNext (heardOf kind a b) (now resource) t (now inbox) (now outbox) (now out))
 
-  same : (t : Top) → t ≡ topOf undos count → after t ≡ left
-  same t et = ap after et
+  same : (t : Top) (r : ℕ) (state-z inbox-z outbox-z out-z : List ℕ) → t ≡ topOf undos count → Said t r state-z inbox-z outbox-z out-z → Said (topOf undos count) r state-z inbox-z outbox-z out-z
+  same t r state-z inbox-z outbox-z out-z et h = subst (λ (v : Top). Said v r state-z inbox-z outbox-z out-z) et h
 
   -- the lifetimes, the shares of their tokens, the arguments and their machine values
   abbrev κs : Lfts 6
@@ -155,7 +158,7 @@ module _ {M : Type 1} (𝓤 : URA M) (H : Heap 𝓤) (A : Atoms 𝓤) (W : Given
       nothing ! $ move ! (10 ∷ 0 ∷ []) $ fjoin ! $ owned ! T.the-row (Is T.the-row) (LL.makes T.the-type T′.the-plain 𝓤 H A) t _ is $ fjoin ! $ move ! (9 ∷ 0 ∷ []) $ fjoin ! $ move ! (8 ∷ 0 ∷ []) $ fjoin ! $ move ! (7 ∷ 0 ∷ []) $ fjoin ! $ owned ! u64 (Is u64) (uint-makes 𝓤 H A W w64) b _ (refl, b-fits) $ fjoin ! $ owned ! u64 (Is u64) (uint-makes 𝓤 H A W w64) a _ (refl, a-fits) $ fjoin ! $ owned ! u32 (Is u32) (uint-makes 𝓤 H A W w32) kind _ (refl, kind-fits) $ fjoin ! $ move ! (6 ∷ 0 ∷ []) $ fjoin ! $
       nothing ! $ move ! (2 ∷ 3 ∷ 4 ∷ 5 ∷ 6 ∷ 0 ∷ []) $ group ! 6 $ join ! $ frame ! $ done !
 
-  exits : (r : ℕ) (v : Val) (state-z : List ℕ) (inbox-z : List ℕ) (outbox-z : List ℕ) (out-z : List ℕ) → (turns.after r state-z inbox-z outbox-z out-z ≡ left) → (length state-z ≡ length (now state)) × ((length inbox-z ≡ length (now inbox)) × ((length outbox-z ≡ length (now outbox)) × ((length out-z ≡ length (now out)) × Unit {0}))) → ent 𝓤 (⋆ 𝓤 H A ((‵ (flft κ₀ q₀) ⊛ ‵ (flft κ₁ q₁) ⊛ ‵ (flft κ₂ q₂) ⊛ ‵ (flft κ₃ q₃) ⊛ ‵ (flft κ₅ q₅) ⊛ ‵ ftrue) ∷ (‵ (flft κ₄ q₄) ⊛ ‵ ftrue) ∷ ‵ (finally u8 (state .name) state-z) ∷ ‵ (finally u8 (inbox .name) inbox-z) ∷ ‵ (finally u8 (outbox .name) outbox-z) ∷ ‵ (finally u8 (out .name) out-z) ∷ ‵ resource-own ∷ ‵ list-own ∷ ‵ (u32 .own r (v ∷ [])) ∷ [])) (Post v)
+  exits : (r : ℕ) (v : Val) (state-z : List ℕ) (inbox-z : List ℕ) (outbox-z : List ℕ) (out-z : List ℕ) → Said (topOf undos count) r state-z inbox-z outbox-z out-z → (length state-z ≡ length (now state)) × ((length inbox-z ≡ length (now inbox)) × ((length outbox-z ≡ length (now outbox)) × ((length out-z ≡ length (now out)) × Unit {0}))) → ent 𝓤 (⋆ 𝓤 H A ((‵ (flft κ₀ q₀) ⊛ ‵ (flft κ₁ q₁) ⊛ ‵ (flft κ₂ q₂) ⊛ ‵ (flft κ₃ q₃) ⊛ ‵ (flft κ₅ q₅) ⊛ ‵ ftrue) ∷ (‵ (flft κ₄ q₄) ⊛ ‵ ftrue) ∷ ‵ (finally u8 (state .name) state-z) ∷ ‵ (finally u8 (inbox .name) inbox-z) ∷ ‵ (finally u8 (outbox .name) outbox-z) ∷ ‵ (finally u8 (out .name) out-z) ∷ ‵ resource-own ∷ ‵ list-own ∷ ‵ (u32 .own r (v ∷ [])) ∷ [])) (Post v)
   exits r v state-z inbox-z outbox-z out-z e l =
       qed W ((‵ (flft κ₀ q₀) ⊛ ‵ (flft κ₁ q₁) ⊛ ‵ (flft κ₂ q₂) ⊛ ‵ (flft κ₃ q₃) ⊛ ‵ (flft κ₅ q₅) ⊛ ‵ ftrue) ∷ (‵ (flft κ₄ q₄) ⊛ ‵ ftrue) ∷ ‵ (finally u8 (state .name) state-z) ∷ ‵ (finally u8 (inbox .name) inbox-z) ∷ ‵ (finally u8 (outbox .name) outbox-z) ∷ ‵ (finally u8 (out .name) out-z) ∷ ‵ resource-own ∷ ‵ list-own ∷ ‵ (u32 .own r (v ∷ [])) ∷ []) ∵
       suffices ! _ (ends-at 𝓤 H A self.ended stayed (self.clauses 𝓤 H A mem run) W ((κs, qs, tt, args, vals), tt) v r (state-z, (tt, (tt, (tt, (tt, (inbox-z, (outbox-z, (tt, (tt, (out-z, tt)))))))))) (l .0, (tt, (tt, (tt, (tt, (l .1 .0, (l .1 .1 .0, (tt, (tt, (l .1 .1 .1 .0, tt))))))))))) $
@@ -195,8 +198,8 @@ module _ {M : Type 1} (𝓤 : URA M) (H : Heap 𝓤) (A : Atoms 𝓤) (W : Given
         -- [what the callee asks; what resource owns; the token of list; what list owns; _19; … _0; …]
         calls-at ! fm (Callee 𝓤 H A mem run) known-callee (to-callee newest newest-v) (and-then ! (load ! (from ! (stop !)) (look ! 16 refl)) (and-then ! (load ! (from ! (stop !)) (look ! 38 refl)) (and-then ! (load ! (from ! (stop !)) (look ! 36 refl)) (and-then ! (load ! (from ! (stop !)) (look ! 34 refl)) (and-then ! (load ! (from ! (stop !)) (look ! 32 refl)) (and-then ! (load ! (from ! (stop !)) (look ! 12 refl)) (and-then ! (load ! (from ! (stop !)) (look ! 8 refl)) (and-then ! (load ! (from ! (stop !)) (look ! 20 refl)) (and-then ! (load ! (from ! (stop !)) (look ! 4 refl)) (no-more !)))))))))) (λ code-v.
         use1 W (later (some (λ (r : ℕ). ((‵ (flft κ₀ q₀) ⊛ ‵ (flft κ₁ q₁) ⊛ ‵ (flft κ₂ q₂) ⊛ ‵ (flft κ₃ q₃) ⊛ ‵ (flft κ₅ q₅) ⊛ ‵ ftrue) ⊛ ‵ (u32 .own r (code-v ∷ []))) ⊛ raw (ensured 𝓤 H A callee.ended (callee.clauses 𝓤 H A mem run) callee-κs (callee-args newest) tt r)))) (id⊢ 𝓤 _) $ await ! tt $ pick ! (λ r.
-        split ! $ move ! (1 ∷ []) $ use1 W (some (λ (zs : Lasts callee.ended callee-κs (callee-args newest)). ‵ (lasts callee.ended callee-κs (callee-args newest) zs) ⊛ raw (fact 𝓤 (turns.after r (zs .0) (zs .1 .1 .1 .1 .1 .0) (zs .1 .1 .1 .1 .1 .1 .0) (zs .1 .1 .1 .1 .1 .1 .1 .1 .0) ≡ after newest)))) (id⊢ 𝓤 _) $ pick ! (λ zs.
-        split ! $ move ! (1 ∷ []) $ heard ! (turns.after r (zs .0) (zs .1 .1 .1 .1 .1 .0) (zs .1 .1 .1 .1 .1 .1 .0) (zs .1 .1 .1 .1 .1 .1 .1 .1 .0) ≡ after newest) (λ e.
+        split ! $ move ! (1 ∷ []) $ use1 W (some (λ (zs : Lasts callee.ended callee-κs (callee-args newest)). ‵ (lasts callee.ended callee-κs (callee-args newest) zs) ⊛ raw (fact 𝓤 (Said newest r (zs .0) (zs .1 .1 .1 .1 .1 .0) (zs .1 .1 .1 .1 .1 .1 .0) (zs .1 .1 .1 .1 .1 .1 .1 .1 .0))))) (id⊢ 𝓤 _) $ pick ! (λ zs.
+        split ! $ move ! (1 ∷ []) $ heard ! (Said newest r (zs .0) (zs .1 .1 .1 .1 .1 .0) (zs .1 .1 .1 .1 .1 .1 .0) (zs .1 .1 .1 .1 .1 .1 .1 .1 .0)) (λ e.
         fsplit ! $ fsplit ! $ move ! (1 ∷ []) $
         feqL ! (λ n-state.
         move ! (1 ∷ []) $ fsplit ! $ drop ! $ fsplit ! $ drop ! $ fsplit ! $ drop ! $ fsplit ! $ drop ! $ fsplit ! $ fsplit ! $ move ! (1 ∷ []) $
@@ -211,7 +214,7 @@ module _ {M : Type 1} (𝓤 : URA M) (H : Heap 𝓤) (A : Atoms 𝓤) (W : Given
         land ! (from ! (stop !)) (init ! 47 refl (uint-lawful 𝓤 H A W w32 .typed r _ is-r .0)) $
         returns ! (look ! 47 refl) $ forget ! 9 refl $ forget ! 11 refl $ forget ! 13 refl $ forget ! 15 refl $ forget ! 17 refl $ forget ! 19 refl $ forget ! 21 refl $ forget ! 23 refl $ forget ! 25 refl $ forget ! 27 refl $ forget ! 29 refl $ forget ! 31 refl $ forget ! 33 refl $ forget ! 35 refl $ forget ! 37 refl $ forget ! 39 refl $ forget ! 41 refl $ forget ! 43 refl $ forget ! 45 refl $ forget ! 47 refl $
         move ! (47 ∷ 48 ∷ []) $ free1 ! $ move ! (45 ∷ 46 ∷ []) $ free1 ! $ move ! (43 ∷ 44 ∷ []) $ free1 ! $ move ! (41 ∷ 42 ∷ []) $ free1 ! $ move ! (39 ∷ 40 ∷ []) $ free1 ! $ move ! (37 ∷ 38 ∷ []) $ free1 ! $ move ! (35 ∷ 36 ∷ []) $ free1 ! $ move ! (33 ∷ 34 ∷ []) $ free1 ! $ move ! (31 ∷ 32 ∷ []) $ free1 ! $ move ! (29 ∷ 30 ∷ []) $ free1 ! $ move ! (27 ∷ 28 ∷ []) $ free1 ! $ move ! (25 ∷ 26 ∷ []) $ free1 ! $ move ! (23 ∷ 24 ∷ []) $ free1 ! $ move ! (21 ∷ 22 ∷ []) $ free1 ! $ move ! (19 ∷ 20 ∷ []) $ free1 ! $ move ! (17 ∷ 18 ∷ []) $ free1 ! $ move ! (15 ∷ 16 ∷ []) $ free1 ! $ move ! (13 ∷ 14 ∷ []) $ free1 ! $ move ! (11 ∷ 12 ∷ []) $ free1 ! $ move ! (9 ∷ 10 ∷ []) $ free1 ! $ free0 ! $
-        keep ! (1 ∷ 7 ∷ 5 ∷ 4 ∷ 3 ∷ 2 ∷ 6 ∷ 8 ∷ 0 ∷ []) $ by ! (exits r code-v (zs .0) (zs .1 .1 .1 .1 .1 .0) (zs .1 .1 .1 .1 .1 .1 .0) (zs .1 .1 .1 .1 .1 .1 .1 .1 .0) (e ∙ same newest e-top) (n-state, (n-inbox, (n-outbox, (n-out, tt))))))))))))))))))))))))))))))))))))))
+        keep ! (1 ∷ 7 ∷ 5 ∷ 4 ∷ 3 ∷ 2 ∷ 6 ∷ 8 ∷ 0 ∷ []) $ by ! (exits r code-v (zs .0) (zs .1 .1 .1 .1 .1 .0) (zs .1 .1 .1 .1 .1 .1 .0) (zs .1 .1 .1 .1 .1 .1 .1 .1 .0) (same newest r (zs .0) (zs .1 .1 .1 .1 .1 .0) (zs .1 .1 .1 .1 .1 .1 .0) (zs .1 .1 .1 .1 .1 .1 .1 .1 .0) e-top e) (n-state, (n-inbox, (n-outbox, (n-out, tt))))))))))))))))))))))))))))))))))))))
 
 module _ {M : Type 1} (𝓤 : URA M) (H : Heap 𝓤) (A : Atoms 𝓤) (W : Given 𝓤 H A) (mem : Memory → SProp 𝓤) (run : Routine → Fun 𝓤) where
   walks : (C : Calls 𝓤 H) (Λ : Loops 𝓤 H) → FmC 𝓤 H (W .laws) C → Triple 𝓤 (C #undo·top) (Tops 𝓤 H A mem run) → Triple 𝓤 (C #turn-answer·answered) (Callee 𝓤 H A mem run)

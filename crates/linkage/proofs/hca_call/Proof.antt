@@ -1,6 +1,6 @@
 -- `linkage::hca_call` meets its contract: a walk of its MIR, by hand. What it takes of the caller's list it takes by `undo::top` and `undo::reserved_above`, and the covered
 -- function `called` does the rest. All that the proof knows of them is that each meets its contract. Assumes nothing.
-use mathlib.Core.Path.{_≡_, refl, sym, ap, _∙_}
+use mathlib.Core.Path.{_≡_, refl, subst, ap, _∙_}
 use Prim.Native.Nat.{ℕ, _<_, _^_}
 use mathlib.Core.Bool.{Bool}
 use mathlib.Core.List.{List, [], _∷_}
@@ -47,7 +47,8 @@ use Rattle.undo.specs.declared.Undo.{Undo}
 use Rattle.undo.proofs.Undo as U
 use Rattle.abi.specs.Turns as turns
 use Rattle.abi.specs.Turns.{After}
-use Rattle.abi.specs.Calls.{made}
+use Rattle.abi.specs.Calls.{callFrom, made}
+use Rattle.abi.specs.Kept.{Holds, wantedNext}
 use Rattle.undo.proofs.top as topping
 use Rattle.undo.proofs.top.Symbol as topping-def
 use Rattle.undo.proofs.top.Symbol.{name as #undo·top}
@@ -94,11 +95,19 @@ module _ {M : Type 1} (𝓤 : URA M) (H : Heap 𝓤) (A : Atoms 𝓤) (W : Given
   abbrev after : Bool → Top → After
   after f t = made kind op op-mod in-mod value f (now input) t (now state) (now inbox) (now outbox) (now out)
 
-  abbrev left : After
-  left = after (anyReserved (skip value (take count undos))) (topOf undos count)
+  -- whether a record above the mark is reserved, and the newest one
+  abbrev found-at : Bool
+  found-at = anyReserved (skip value (take count undos))
 
-  same : (t : Top) (f : Bool) → t ≡ topOf undos count → f ≡ anyReserved (skip value (take count undos)) → after f t ≡ left
-  same t f et ef = ap (λ (g : Bool). after g t) ef ∙ ap (after (anyReserved (skip value (take count undos)))) et
+  -- what is said of the number and of the last bytes
+  abbrev Said : Bool → Top → (r : ℕ) → (state-z inbox-z outbox-z out-z : List ℕ) → Type 0
+  Said f t r state-z inbox-z outbox-z out-z =
+      (turns.after r state-z inbox-z outbox-z out-z ≡ after f t) × Holds (now state) state-z (wantedNext (callFrom kind op op-mod in-mod value f) (now input) t (now inbox) (now outbox) (now out))
+
+  same : (t : Top) (f : Bool) (r : ℕ) (state-z inbox-z outbox-z out-z : List ℕ) → t ≡ topOf undos count → f ≡ found-at → Said f t r state-z inbox-z outbox-z out-z
+      → Said found-at (topOf undos count) r state-z inbox-z outbox-z out-z
+  same t f r state-z inbox-z outbox-z out-z et ef h =
+      subst (λ (v : Top). Said found-at v r state-z inbox-z outbox-z out-z) et (subst (λ (g : Bool). Said g t r state-z inbox-z outbox-z out-z) ef h)
 
   -- the lifetimes, the shares of their tokens, the arguments and their machine values
   abbrev κs : Lfts 6
@@ -197,7 +206,7 @@ module _ {M : Type 1} (𝓤 : URA M) (H : Heap 𝓤) (A : Atoms 𝓤) (W : Given
       nothing ! $ move ! (10 ∷ 0 ∷ []) $ fjoin ! $ owned ! T.the-row (Is T.the-row) (LL.makes T.the-type T′.the-plain 𝓤 H A) t _ is $ fjoin ! $ move ! (9 ∷ 0 ∷ []) $ fjoin ! $ move ! (8 ∷ 0 ∷ []) $ fjoin ! $ move ! (7 ∷ 0 ∷ []) $ fjoin ! $ owned ! bool (Is bool) (bool-makes 𝓤 H A W) f _ refl $ fjoin ! $ owned ! u64 (Is u64) (uint-makes 𝓤 H A W w64) value _ (refl, value-fits) $ fjoin ! $ owned ! u32 (Is u32) (uint-makes 𝓤 H A W w32) in-mod _ (refl, in-mod-fits) $ fjoin ! $ owned ! u8 (Is u8) (uint-makes 𝓤 H A W w8) op-mod _ (refl, op-mod-fits) $ fjoin ! $ owned ! u16 (Is u16) (uint-makes 𝓤 H A W w16) op _ (refl, op-fits) $ fjoin ! $ owned ! u32 (Is u32) (uint-makes 𝓤 H A W w32) kind _ (refl, kind-fits) $ fjoin ! $ move ! (6 ∷ 0 ∷ []) $ fjoin ! $
       nothing ! $ move ! (2 ∷ 3 ∷ 4 ∷ 5 ∷ 6 ∷ 0 ∷ []) $ group ! 6 $ join ! $ frame ! $ done !
 
-  exits : (r : ℕ) (v : Val) (state-z : List ℕ) (inbox-z : List ℕ) (outbox-z : List ℕ) (out-z : List ℕ) → (turns.after r state-z inbox-z outbox-z out-z ≡ left) → (length state-z ≡ length (now state)) × ((length inbox-z ≡ length (now inbox)) × ((length outbox-z ≡ length (now outbox)) × ((length out-z ≡ length (now out)) × Unit {0}))) → ent 𝓤 (⋆ 𝓤 H A ((‵ (flft κ₀ q₀) ⊛ ‵ (flft κ₁ q₁) ⊛ ‵ (flft κ₂ q₂) ⊛ ‵ (flft κ₃ q₃) ⊛ ‵ (flft κ₅ q₅) ⊛ ‵ ftrue) ∷ (‵ (flft κ₄ q₄) ⊛ ‵ ftrue) ∷ ‵ (finally u8 (state .name) state-z) ∷ ‵ (finally u8 (inbox .name) inbox-z) ∷ ‵ (finally u8 (outbox .name) outbox-z) ∷ ‵ (finally u8 (out .name) out-z) ∷ ‵ input-own ∷ ‵ list-own ∷ ‵ (u32 .own r (v ∷ [])) ∷ [])) (Post v)
+  exits : (r : ℕ) (v : Val) (state-z : List ℕ) (inbox-z : List ℕ) (outbox-z : List ℕ) (out-z : List ℕ) → Said found-at (topOf undos count) r state-z inbox-z outbox-z out-z → (length state-z ≡ length (now state)) × ((length inbox-z ≡ length (now inbox)) × ((length outbox-z ≡ length (now outbox)) × ((length out-z ≡ length (now out)) × Unit {0}))) → ent 𝓤 (⋆ 𝓤 H A ((‵ (flft κ₀ q₀) ⊛ ‵ (flft κ₁ q₁) ⊛ ‵ (flft κ₂ q₂) ⊛ ‵ (flft κ₃ q₃) ⊛ ‵ (flft κ₅ q₅) ⊛ ‵ ftrue) ∷ (‵ (flft κ₄ q₄) ⊛ ‵ ftrue) ∷ ‵ (finally u8 (state .name) state-z) ∷ ‵ (finally u8 (inbox .name) inbox-z) ∷ ‵ (finally u8 (outbox .name) outbox-z) ∷ ‵ (finally u8 (out .name) out-z) ∷ ‵ input-own ∷ ‵ list-own ∷ ‵ (u32 .own r (v ∷ [])) ∷ [])) (Post v)
   exits r v state-z inbox-z outbox-z out-z e l =
       qed W ((‵ (flft κ₀ q₀) ⊛ ‵ (flft κ₁ q₁) ⊛ ‵ (flft κ₂ q₂) ⊛ ‵ (flft κ₃ q₃) ⊛ ‵ (flft κ₅ q₅) ⊛ ‵ ftrue) ∷ (‵ (flft κ₄ q₄) ⊛ ‵ ftrue) ∷ ‵ (finally u8 (state .name) state-z) ∷ ‵ (finally u8 (inbox .name) inbox-z) ∷ ‵ (finally u8 (outbox .name) outbox-z) ∷ ‵ (finally u8 (out .name) out-z) ∷ ‵ input-own ∷ ‵ list-own ∷ ‵ (u32 .own r (v ∷ [])) ∷ []) ∵
       suffices ! _ (ends-at 𝓤 H A self.ended stayed (self.clauses 𝓤 H A mem run) W ((κs, qs, tt, args, vals), tt) v r (state-z, (tt, (tt, (tt, (tt, (tt, (tt, (inbox-z, (outbox-z, (tt, (tt, (out-z, tt)))))))))))) (l .0, (tt, (tt, (tt, (tt, (tt, (tt, (l .1 .0, (l .1 .1 .0, (tt, (tt, (l .1 .1 .1 .0, tt))))))))))))) $
@@ -252,8 +261,8 @@ module _ {M : Type 1} (𝓤 : URA M) (H : Heap 𝓤) (A : Atoms 𝓤) (W : Given
         -- [what the callee asks; what input owns; the token of list; what list owns; _23; … _0; …]
         calls-at ! fm (Callee 𝓤 H A mem run) known-callee (to-callee newest newest-v found) (and-then ! (load ! (from ! (stop !)) (look ! 16 refl)) (and-then ! (load ! (from ! (stop !)) (look ! 46 refl)) (and-then ! (load ! (from ! (stop !)) (look ! 44 refl)) (and-then ! (load ! (from ! (stop !)) (look ! 42 refl)) (and-then ! (load ! (from ! (stop !)) (look ! 40 refl)) (and-then ! (load ! (from ! (stop !)) (look ! 38 refl)) (and-then ! (load ! (from ! (stop !)) (look ! 22 refl)) (and-then ! (load ! (from ! (stop !)) (look ! 36 refl)) (and-then ! (load ! (from ! (stop !)) (look ! 12 refl)) (and-then ! (load ! (from ! (stop !)) (look ! 8 refl)) (and-then ! (load ! (from ! (stop !)) (look ! 24 refl)) (and-then ! (load ! (from ! (stop !)) (look ! 4 refl)) (no-more !))))))))))))) (λ code-v.
         use1 W (later (some (λ (r : ℕ). ((‵ (flft κ₀ q₀) ⊛ ‵ (flft κ₁ q₁) ⊛ ‵ (flft κ₂ q₂) ⊛ ‵ (flft κ₃ q₃) ⊛ ‵ (flft κ₅ q₅) ⊛ ‵ ftrue) ⊛ ‵ (u32 .own r (code-v ∷ []))) ⊛ raw (ensured 𝓤 H A callee.ended (callee.clauses 𝓤 H A mem run) callee-κs (callee-args newest found) tt r)))) (id⊢ 𝓤 _) $ await ! tt $ pick ! (λ r.
-        split ! $ move ! (1 ∷ []) $ use1 W (some (λ (zs : Lasts callee.ended callee-κs (callee-args newest found)). ‵ (lasts callee.ended callee-κs (callee-args newest found) zs) ⊛ raw (fact 𝓤 (turns.after r (zs .0) (zs .1 .1 .1 .1 .1 .1 .1 .1 .0) (zs .1 .1 .1 .1 .1 .1 .1 .1 .1 .0) (zs .1 .1 .1 .1 .1 .1 .1 .1 .1 .1 .1 .0) ≡ after found newest)))) (id⊢ 𝓤 _) $ pick ! (λ zs.
-        split ! $ move ! (1 ∷ []) $ heard ! (turns.after r (zs .0) (zs .1 .1 .1 .1 .1 .1 .1 .1 .0) (zs .1 .1 .1 .1 .1 .1 .1 .1 .1 .0) (zs .1 .1 .1 .1 .1 .1 .1 .1 .1 .1 .1 .0) ≡ after found newest) (λ e.
+        split ! $ move ! (1 ∷ []) $ use1 W (some (λ (zs : Lasts callee.ended callee-κs (callee-args newest found)). ‵ (lasts callee.ended callee-κs (callee-args newest found) zs) ⊛ raw (fact 𝓤 (Said found newest r (zs .0) (zs .1 .1 .1 .1 .1 .1 .1 .1 .0) (zs .1 .1 .1 .1 .1 .1 .1 .1 .1 .0) (zs .1 .1 .1 .1 .1 .1 .1 .1 .1 .1 .1 .0))))) (id⊢ 𝓤 _) $ pick ! (λ zs.
+        split ! $ move ! (1 ∷ []) $ heard ! (Said found newest r (zs .0) (zs .1 .1 .1 .1 .1 .1 .1 .1 .0) (zs .1 .1 .1 .1 .1 .1 .1 .1 .1 .0) (zs .1 .1 .1 .1 .1 .1 .1 .1 .1 .1 .1 .0)) (λ e.
         fsplit ! $ fsplit ! $ move ! (1 ∷ []) $
         feqL ! (λ n-state.
         move ! (1 ∷ []) $ fsplit ! $ drop ! $ fsplit ! $ drop ! $ fsplit ! $ drop ! $ fsplit ! $ drop ! $ fsplit ! $ drop ! $ fsplit ! $ drop ! $ fsplit ! $ drop ! $ fsplit ! $ fsplit ! $ move ! (1 ∷ []) $
@@ -268,7 +277,7 @@ module _ {M : Type 1} (𝓤 : URA M) (H : Heap 𝓤) (A : Atoms 𝓤) (W : Given
         land ! (from ! (stop !)) (init ! 55 refl (uint-lawful 𝓤 H A W w32 .typed r _ is-r .0)) $
         returns ! (look ! 55 refl) $ forget ! 9 refl $ forget ! 11 refl $ forget ! 13 refl $ forget ! 15 refl $ forget ! 17 refl $ forget ! 19 refl $ forget ! 21 refl $ forget ! 23 refl $ forget ! 25 refl $ forget ! 27 refl $ forget ! 29 refl $ forget ! 31 refl $ forget ! 33 refl $ forget ! 35 refl $ forget ! 37 refl $ forget ! 39 refl $ forget ! 41 refl $ forget ! 43 refl $ forget ! 45 refl $ forget ! 47 refl $ forget ! 49 refl $ forget ! 51 refl $ forget ! 53 refl $ forget ! 55 refl $
         move ! (55 ∷ 56 ∷ []) $ free1 ! $ move ! (53 ∷ 54 ∷ []) $ free1 ! $ move ! (51 ∷ 52 ∷ []) $ free1 ! $ move ! (49 ∷ 50 ∷ []) $ free1 ! $ move ! (47 ∷ 48 ∷ []) $ free1 ! $ move ! (45 ∷ 46 ∷ []) $ free1 ! $ move ! (43 ∷ 44 ∷ []) $ free1 ! $ move ! (41 ∷ 42 ∷ []) $ free1 ! $ move ! (39 ∷ 40 ∷ []) $ free1 ! $ move ! (37 ∷ 38 ∷ []) $ free1 ! $ move ! (35 ∷ 36 ∷ []) $ free1 ! $ move ! (33 ∷ 34 ∷ []) $ free1 ! $ move ! (31 ∷ 32 ∷ []) $ free1 ! $ move ! (29 ∷ 30 ∷ []) $ free1 ! $ move ! (27 ∷ 28 ∷ []) $ free1 ! $ move ! (25 ∷ 26 ∷ []) $ free1 ! $ move ! (23 ∷ 24 ∷ []) $ free1 ! $ move ! (21 ∷ 22 ∷ []) $ free1 ! $ move ! (19 ∷ 20 ∷ []) $ free1 ! $ move ! (17 ∷ 18 ∷ []) $ free1 ! $ move ! (15 ∷ 16 ∷ []) $ free1 ! $ move ! (13 ∷ 14 ∷ []) $ free1 ! $ move ! (11 ∷ 12 ∷ []) $ free1 ! $ move ! (9 ∷ 10 ∷ []) $ free1 ! $ free0 ! $
-        keep ! (1 ∷ 7 ∷ 5 ∷ 4 ∷ 3 ∷ 2 ∷ 6 ∷ 8 ∷ 0 ∷ []) $ by ! (exits r code-v (zs .0) (zs .1 .1 .1 .1 .1 .1 .1 .1 .0) (zs .1 .1 .1 .1 .1 .1 .1 .1 .1 .0) (zs .1 .1 .1 .1 .1 .1 .1 .1 .1 .1 .1 .0) (e ∙ same newest found e-top (e-found ∙ ap (λ (m : ℕ). anyReserved (skip m (take count undos))) e-mark)) (n-state, (n-inbox, (n-outbox, (n-out, tt))))))))))))))))))))))))))))))))))))))))))))))))))
+        keep ! (1 ∷ 7 ∷ 5 ∷ 4 ∷ 3 ∷ 2 ∷ 6 ∷ 8 ∷ 0 ∷ []) $ by ! (exits r code-v (zs .0) (zs .1 .1 .1 .1 .1 .1 .1 .1 .0) (zs .1 .1 .1 .1 .1 .1 .1 .1 .1 .0) (zs .1 .1 .1 .1 .1 .1 .1 .1 .1 .1 .1 .0) (same newest found r (zs .0) (zs .1 .1 .1 .1 .1 .1 .1 .1 .0) (zs .1 .1 .1 .1 .1 .1 .1 .1 .1 .0) (zs .1 .1 .1 .1 .1 .1 .1 .1 .1 .1 .1 .0) e-top (e-found ∙ ap (λ (m : ℕ). anyReserved (skip m (take count undos))) e-mark) e) (n-state, (n-inbox, (n-outbox, (n-out, tt))))))))))))))))))))))))))))))))))))))))))))))))))
 
 module _ {M : Type 1} (𝓤 : URA M) (H : Heap 𝓤) (A : Atoms 𝓤) (W : Given 𝓤 H A) (mem : Memory → SProp 𝓤) (run : Routine → Fun 𝓤) where
   walks : (C : Calls 𝓤 H) (Λ : Loops 𝓤 H) → FmC 𝓤 H (W .laws) C → Triple 𝓤 (C #undo·top) (Tops 𝓤 H A mem run) → Triple 𝓤 (C #turn-call·mark-of) (Marks 𝓤 H A mem run) → Triple 𝓤 (C #undo·reserved-above) (Reserved 𝓤 H A mem run) → Triple 𝓤 (C #turn-call·called) (Callee 𝓤 H A mem run)

@@ -1,5 +1,7 @@
 use borrow.Author.Needs.{needs}
 use Rattle.abi.proofs.Turns.{good, on}
+use Rattle.abi.proofs.Kept.{read-holds, short-holds, no-session-holds}
+use Rattle.abi.specs.Kept.{answerNext}
 use Rattle.abi.specs.Turns.{answerKnown}
 use Rattle.fields.specs.Outcome.{value}
 use mathlib.Core.Path.{_∙_}
@@ -12,22 +14,31 @@ unfolding answered
 returns c =
     let p = c .before .before .before .before .before .before .before .before .before .before .before .before .before .before .before .before .before .before .before .before .before .before .before .args in
     let g = on (value (c .before .before .before .before .before .before .before .before .before .before .before .before .before .before .before .before .decode .result .session)) (λ x. answerKnown x (p .a) (p .resource .now) (p .top) (p .state .now) (p .inbox .now) (p .outbox .now) (p .out .now)) (p .state .now) (p .inbox .now) (p .outbox .now) (p .out .now) (good (c .before .before .before .before .before .before .before .before .before .before .before .before .before .before .before .before .decode .result) (p .state .now) (c .before .before .before .before .before .before .before .before .before .before .before .before .before .before .before .before .decode .ensures .0) (c .before .before .before .before .before .before .before .before .before .before .before .before .before .enum-told .given .1)) in
-    c .before .before .before .before .before .before .before .before .answer-of .ensures ∙ g
+    let d = c .before .before .before .before .before .before .before .before .before .before .before .before .before .before .before .before .decode in (
+      c .before .before .before .before .before .before .before .before .answer-of .ensures .0 ∙ g,
+      read-holds (d .result) (p .state .now) _ (answerNext (p .a) (p .resource .now) (p .top) (p .inbox .now) (p .outbox .now) (p .out .now)) (d .ensures .0) (c .before .before .before .before .before .before .before .before .before .before .before .before .before .enum-told .given .1) (c .before .before .before .before .before .before .before .before .answer-of .ensures .1),
+    )
 
 returns-2 : tie.Need-returns-2
 unfolding answered
-returns-2 c = simp (
-  ← (c .before .before .before .decode .ensures .0),
-  c .before .match .keys2,
-  c .enum-told2 .given .1,
+returns-2 c = (
+  simp (
+    ← (c .before .before .before .decode .ensures .0),
+    c .before .match .keys2,
+    c .enum-told2 .given .1,
+  ),
+  short-holds (c .before .before .before .decode .result) _ _ _ (c .before .before .before .decode .ensures .0) (c .enum-told2 .given .1),
 )
 
 returns-3 : tie.Need-returns-3
 unfolding answered
-returns-3 c = simp (
-  ← (c .before .before .before .decode .ensures .0),
-  c .before .match .keys3,
-  c .enum-told3 .given .1,
+returns-3 c = (
+  simp (
+    ← (c .before .before .before .decode .ensures .0),
+    c .before .match .keys3,
+    c .enum-told3 .given .1,
+  ),
+  no-session-holds (c .before .before .before .decode .result) _ _ _ (c .before .before .before .decode .ensures .0) (c .enum-told3 .given .1),
 )
 
 pub answer-bytes-spec : {M : Type 1} → statement M

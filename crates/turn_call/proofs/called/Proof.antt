@@ -1,5 +1,7 @@
+use mathlib.Core.List.{[]}
 use borrow.Author.Needs.{needs}
 use Rattle.abi.proofs.Calls.{by-wanted}
+use Rattle.abi.proofs.Kept.{wanted-holds, unwanted-holds}
 use Rattle.fields.specs.Outcome.{value}
 use mathlib.Core.Path.{ap, sym, _∙_}
 use Rattle.abi.specs.Calls.{made, callAs}
@@ -11,15 +13,21 @@ unfolding made
 returns c =
     let p = c .before .before .before .before .before .before .before .before .before .before .before .before .before .before .before .before .before .before .before .before .before .before .args in
     let u = p .top in
-    let g = by-wanted (value _) (p .input .now) u (p .state .now) (p .inbox .now) (p .outbox .now) (p .out .now) (sym (ap callAs (c .before .before .before .before .before .before .before .before .before .before .before .before .before .before .x .given .1)) ∙ c .before .before .before .before .before .before .before .before .before .before .before .before .before .before .before .before .call-from .ensures) in
-    c .before .before .before .before .before .before .before .before .call-bytes .ensures ∙ g
+    let known = sym (ap callAs (c .before .before .before .before .before .before .before .before .before .before .before .before .before .before .x .given .1)) ∙ c .before .before .before .before .before .before .before .before .before .before .before .before .before .before .before .before .call-from .ensures in
+    let g = by-wanted (value _) (p .input .now) u (p .state .now) (p .inbox .now) (p .outbox .now) (p .out .now) known in (
+      c .before .before .before .before .before .before .before .before .call-bytes .ensures .0 ∙ g,
+      wanted-holds _ _ (p .input .now) u (p .inbox .now) (p .outbox .now) (p .out .now) (p .state .now) _ known (c .before .before .before .before .before .before .before .before .call-bytes .ensures .1),
+    )
 
 returns-2 : tie.Need-returns-2
 unfolding made
-returns-2 c = simp (
-  ← (c .before .before .call-from .ensures),
-  c .before .match .keys2,
-  c .enum-told .given .1,
+returns-2 c = (
+  simp (
+    ← (c .before .before .call-from .ensures),
+    c .before .match .keys2,
+    c .enum-told .given .1,
+  ),
+  unwanted-holds _ 20 [] _ _ _ _ _ _ (sym (ap callAs (c .enum-told .given .1)) ∙ c .before .before .call-from .ensures),
 )
 
 pub called-spec : {M : Type 1} → statement M

@@ -1,4 +1,7 @@
+use mathlib.Core.Path.{refl}
 use borrow.Author.Needs.{needs}
+use Rattle.session.specs.declared.Failure.the-variants as f
+use Rattle.abi.proofs.Kept.{wrote}
 use Rattle.turns.proofs.taken.Statement.{statement}
 use Rattle.turns.proofs.taken.Tie as tie
 
@@ -19,12 +22,16 @@ returns c = (
       c .before .before .before .before .before .before .encode .ensures .1,
       c .before .before .put-turn .ensures,
     ),
-    simp (
-      c .before .before .before .before .before .before .before .before .before .match .keys1,
-      c .before .before .before .before .before .before .before .before .enum-told .given .1,
-      c .before .before .before .before .before .before .encode .ensures .0,
-      c .before .before .before .before .before .before .encode .ensures .1,
-      c .before .before .put-turn .ensures,
+    (
+      simp (
+        c .before .before .before .before .before .before .before .before .before .match .keys1,
+        c .before .before .before .before .before .before .before .before .enum-told .given .1,
+        c .before .before .before .before .before .before .encode .ensures .0,
+        c .before .before .before .before .before .before .encode .ensures .1,
+        c .before .before .put-turn .ensures,
+      ),
+      rw (c .before .before .before .before .before .before .before .before .enum-told .given .1)
+          (wrote (c .before .before .before .before .before .before .before .before .before .before .before .before .before .args .t .session) _ (c .before .before .before .before .before .before .before .before .before .before .before .before .before .good .0 .1 .1 .0) f.Nothing _ _ (c .before .before .before .before .before .before .encode .ensures .1)),
     ),
   ),
 )
@@ -42,10 +49,13 @@ returns-2 c = (
       c .before .before .refusal .given .1,
       c .number .ensures,
     ),
-    simp (
-      c .before .before .before .match .keys2,
-      c .before .before .refusal .given .1,
-      c .number .ensures,
+    (
+      simp (
+        c .before .before .before .match .keys2,
+        c .before .before .refusal .given .1,
+        c .number .ensures,
+      ),
+      rw (c .before .before .refusal .given .1) (wrote (c .before .before .before .before .before .before .before .args .t .session) _ (c .before .before .before .before .before .before .before .good .0 .1 .1 .0) (f.By _) _ _ refl),
     ),
   ),
 )

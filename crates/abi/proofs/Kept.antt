@@ -1,0 +1,132 @@
+-- WHAT IS WRITTEN IS READ BACK: a session that the code writes is one of its type, and its counts stay within their arrays; so the bytes hold it, and the next call begins
+-- from it.
+use Prim.Native.Nat.{ℕ, _≤_}
+use mathlib.Core.Bool.{Bool, true, false}
+use mathlib.Core.List.{List, []}
+use mathlib.Core.Path.{_≡_, ap, sym, subst, _∙_}
+use borrow.Author.Tests.{le-ltb}
+use lib.Dec.{ltb}
+use lib.ListN.{length}
+use mir.Val.{Val}
+use denote.Laws.{Is}
+use Rattle.fields.specs.Outcome.{Outcome, value, refused, pick}
+use Rattle.fields.proofs.Outcomes.{same-value, never-refused}
+use Rattle.words_session.specs.Image.{decodeOf, putSession, keptAs, keptOf}
+use Rattle.words_session.specs.declared.Decoded.{Decoded}
+use Rattle.words_session.specs.declared.Kept.the-variants as k
+use Rattle.words_laws.proofs.Trip.{trip}
+use Rattle.words_laws.proofs.Typed.{session-typed}
+use Rattle.words_laws.proofs.Poll.{given, counts-of}
+use Rattle.session.specs.declared.Top.{Top}
+use Rattle.session.specs.declared.Failure.{Failure}
+use Rattle.session.specs.declared.Failure.the-variants as f
+use Rattle.session.specs.declared.Session.{Session}
+use Rattle.session.proofs.Session.{the-row as session-row}
+use Rattle.pci.specs.declared.Answer.{Answer}
+use Rattle.fw_plan.specs.Calls.{answerable, answerOf}
+use Rattle.fw_plan.specs.declared.Turn.{Turn}
+use Rattle.calls_plan.specs.Calls.{callable, callOf}
+use Rattle.calls_plan.specs.Counts.{Counted}
+use Rattle.calls_plan.specs.declared.Call.{Call}
+use Rattle.calls_plan.proofs.Counts.{call-counted, answer-counted}
+use Rattle.abi.specs.Turns.{stateBy}
+use Rattle.abi.specs.Kept.{givenBy, nextBy, callNext, answerNext, wantedNext, heardNext, Keeps, Holds, Writes}
+use Rattle.abi.proofs.Turns.{good}
+
+-- a session of its type was written over another
+pub wrote : (y : Session) (vs : List Val) → Is session-row y vs → (z : Failure) (s t : List ℕ) → t ≡ stateBy z y s → Writes z y s t
+unfolding Writes Keeps
+wrote y vs h f.Nothing s t e = λ x n d.
+    let enough = given s x d .enough in
+    ap decodeOf (e ∙ ap (λ b. pick b s (putSession s y)) (le-ltb (length s) 3336 enough)) ∙ trip s y (session-typed y vs h (n .0) (n .1)) enough
+wrote y vs h (f.By why) s t e = tt
+
+-- a session that was read has its counts within its arrays
+pub counted : (s : List ℕ) (x : Session) → decodeOf s ≡ value x → Counted (x .books .lists)
+counted s x d = counts-of s x (given s x d .stand)
+
+-- A TURN WAS TAKEN: the bytes hold what it gave
+taken-keeps : (z : Failure) (y x : Session) (s t : List ℕ) → (Counted (x .books .lists) → Counted (y .books .lists)) → Writes z y s t → t ≡ stateBy z y s → Keeps s t x (givenBy z y x)
+unfolding Writes Keeps
+taken-keeps f.Nothing y x s t n h e d = h x (n (counted s x d)) d
+taken-keeps (f.By why) y x s t n h e d = ap decodeOf e ∙ d
+
+next-keeps : (time short : Bool) (u : Turn) (x : Session) (s t : List ℕ) → time ≡ true → short ≡ false → Keeps s t x (givenBy (u .refusal) (u .session) x) → Keeps s t x (nextBy time short u x)
+unfolding Keeps
+next-keeps time short u x s t a b h d = h d ∙ ap value (sym (ap (λ g. nextBy g short u x) a ∙ ap (λ g. nextBy true g u x) b))
+
+pub call-keeps : (x : Session) (c : Call) (y : List ℕ) (u : Top) (i o w s t : List ℕ) (v : Turn) → v ≡ callOf x c y i o u → callable x c ≡ true → ltb (length w) 40 ≡ false
+    → Writes (v .refusal) (v .session) s t → t ≡ stateBy (v .refusal) (v .session) s → Keeps s t x (callNext c y u i o w x)
+unfolding callNext
+call-keeps x c y u i o w s t v z a b =
+    subst (λ (v : Turn). Writes (v .refusal) (v .session) s t → t ≡ stateBy (v .refusal) (v .session) s → Keeps s t x (callNext c y u i o w x)) (sym z)
+    (λ h e. next-keeps (callable x c) (ltb (length w) 40) (callOf x c y i o u) x s t a b (taken-keeps (callOf x c y i o u .refusal) (callOf x c y i o u .session) x s t (call-counted x c y i o u) h e))
+
+pub answer-keeps : (x : Session) (a : Answer) (r : List ℕ) (u : Top) (i o w s t : List ℕ) (v : Turn) → v ≡ answerOf x a r i o u → answerable x a ≡ true → ltb (length w) 40 ≡ false
+    → Writes (v .refusal) (v .session) s t → t ≡ stateBy (v .refusal) (v .session) s → Keeps s t x (answerNext a r u i o w x)
+unfolding answerNext
+answer-keeps x a r u i o w s t v z b d =
+    subst (λ (v : Turn). Writes (v .refusal) (v .session) s t → t ≡ stateBy (v .refusal) (v .session) s → Keeps s t x (answerNext a r u i o w x)) (sym z)
+    (λ h e. next-keeps (answerable x a) (ltb (length w) 40) (answerOf x a r i o u) x s t b d (taken-keeps (answerOf x a r i o u .refusal) (answerOf x a r i o u .session) x s t (answer-counted x a r i o u) h e))
+
+-- IT WAS NOT THE TIME, or `out` is too short: the bytes are left, and so is the session
+late : (x : Session) (short : Bool) (u : Turn) (time : Bool) (s : List ℕ) → time ≡ false → Keeps s s x (nextBy time short u x)
+unfolding Keeps
+late x short u time s e d = d ∙ ap value (sym (ap (λ g. nextBy g short u x) e))
+
+too-short : (x : Session) (u : Turn) (time short : Bool) (s : List ℕ) → time ≡ true → short ≡ true → Keeps s s x (nextBy time short u x)
+unfolding Keeps
+too-short x u time short s a b d = d ∙ ap value (sym (ap (λ g. nextBy g short u x) a ∙ ap (λ g. nextBy true g u x) b))
+
+module _ (x : Session) (c : Call) (y : List ℕ) (u : Top) (i o w s : List ℕ) where
+  pub call-late : callable x c ≡ false → Keeps s s x (callNext c y u i o w x)
+  unfolding callNext
+  call-late e = late x (ltb (length w) 40) (callOf x c y i o u) (callable x c) s e
+
+  pub call-short : callable x c ≡ true → ltb (length w) 40 ≡ true → Keeps s s x (callNext c y u i o w x)
+  unfolding callNext
+  call-short e d = too-short x (callOf x c y i o u) (callable x c) (ltb (length w) 40) s e d
+
+module _ (x : Session) (a : Answer) (r : List ℕ) (u : Top) (i o w s : List ℕ) where
+  pub answer-late : answerable x a ≡ false → Keeps s s x (answerNext a r u i o w x)
+  unfolding answerNext
+  answer-late e = late x (ltb (length w) 40) (answerOf x a r i o u) (answerable x a) s e
+
+  pub answer-short : answerable x a ≡ true → ltb (length w) 40 ≡ true → Keeps s s x (answerNext a r u i o w x)
+  unfolding answerNext
+  answer-short e d = too-short x (answerOf x a r i o u) (answerable x a) (ltb (length w) 40) s e d
+
+-- THE BYTES were read, and a call made of the session; or they hold none
+pub read-holds : (d : Decoded) (s t : List ℕ) (next : Session → Session) → keptOf d ≡ decodeOf s → d .outcome ≡ k.Good → Keeps s t (d .session) (next (d .session)) → Holds s t next
+unfolding Keeps Holds
+read-holds d s t next e g h x r =
+    let z = good d s e g in
+    let same : d .session ≡ x = same-value (z ∙ r) in
+    h (sym z) ∙ ap (λ y. value (next y)) same
+
+none-holds : (s t : List ℕ) (next : Session → Session) (n : ℕ) (vs : List ℕ) → refused n vs ≡ decodeOf s → Holds s t next
+unfolding Keeps Holds
+none-holds s t next n vs e x r = absurd (never-refused (e ∙ r))
+
+pub short-holds : (d : Decoded) (s t : List ℕ) (next : Session → Session) → keptOf d ≡ decodeOf s → d .outcome ≡ k.Short → Holds s t next
+short-holds d s t next e g = none-holds s t next 21 [] (sym (ap (keptAs (d .session)) g) ∙ e)
+
+pub no-session-holds : (d : Decoded) (s t : List ℕ) (next : Session → Session) → keptOf d ≡ decodeOf s → d .outcome ≡ k.NoSession → Holds s t next
+no-session-holds d s t next e g = none-holds s t next 20 [] (sym (ap (keptAs (d .session)) g) ∙ e)
+
+-- A CALL AND AN ANSWER by their kinds; where there is no such kind, the bytes are left
+pub wanted-holds : (c : Call) (z : Outcome Call) (y : List ℕ) (u : Top) (i o w s t : List ℕ) → value c ≡ z → Holds s t (callNext c y u i o w) → Holds s t (wantedNext z y u i o w)
+unfolding Holds wantedNext
+wanted-holds c z y u i o w s t e h x = subst (λ (v : Outcome Call). Keeps s t x (wantedNext v y u i o w x)) e (h x)
+
+pub unwanted-holds : (z : Outcome Call) (n : ℕ) (vs y : List ℕ) (u : Top) (i o w s : List ℕ) → refused n vs ≡ z → Holds s s (wantedNext z y u i o w)
+unfolding Holds Keeps wantedNext
+unwanted-holds z n vs y u i o w s e x = subst (λ (v : Outcome Call). decodeOf s ≡ value x → decodeOf s ≡ value (wantedNext v y u i o w x)) e (λ d. d)
+
+pub heard-holds : (a : Answer) (z : Outcome Answer) (r : List ℕ) (u : Top) (i o w s t : List ℕ) → value a ≡ z → Holds s t (answerNext a r u i o w) → Holds s t (heardNext z r u i o w)
+unfolding Holds heardNext
+heard-holds a z r u i o w s t e h x = subst (λ (v : Outcome Answer). Keeps s t x (heardNext v r u i o w x)) e (h x)
+
+pub unheard-holds : (z : Outcome Answer) (n : ℕ) (vs r : List ℕ) (u : Top) (i o w s : List ℕ) → refused n vs ≡ z → Holds s s (heardNext z r u i o w)
+unfolding Holds Keeps heardNext
+unheard-holds z n vs r u i o w s e x = subst (λ (v : Outcome Answer). decodeOf s ≡ value x → decodeOf s ≡ value (heardNext v r u i o w x)) e (λ d. d)

@@ -1,0 +1,82 @@
+-- A value of its type fits: of the books, what the language says of a parameter or a result (`Is` of its type) has each number below the bound of its width.
+use mathlib.Core.List.{List}
+use mir.Val.{Val}
+use denote.Laws.{Is}
+use Rattle.words_task.proofs.Typed.{catas-typed}
+use Rattle.pci.specs.declared.Refusal.{Refusal}
+use Rattle.session.specs.declared.Failure.{Failure}
+use Rattle.session.specs.declared.Closing.{Closing}
+use Rattle.dma.specs.declared.Buffer.{Buffer}
+use Rattle.session.specs.declared.Hold.{Hold}
+use Rattle.session.specs.declared.Held.{Held}
+use Rattle.session.specs.declared.Wire.{Wire}
+use Rattle.pci.specs.declared.Refusal.the-variants as refusal
+use Rattle.session.specs.declared.Failure.the-variants as failure
+use Rattle.session.specs.declared.Closing.the-variants as closing
+use Rattle.session.specs.declared.Hold.the-variants as hold
+use Rattle.pci.proofs.Refusal.{the-row as refusal-row}
+use Rattle.session.proofs.Failure.{the-row as failure-row}
+use Rattle.session.proofs.Closing.{the-row as closing-row}
+use Rattle.dma.proofs.Buffer.{the-row as buffer-row}
+use Rattle.session.proofs.Hold.{the-row as hold-row}
+use Rattle.session.proofs.Held.{the-row as held-row}
+use Rattle.session.proofs.Wire.{the-row as wire-row}
+use Rattle.words_books.specs.Fits.{RefusalFits, FailureFits, ClosingFits, BufferFits, HoldFits, HeldFits, WireFits}
+
+pub refusal-typed : (v : Refusal) (vs : List Val) → Is refusal-row v vs → RefusalFits v
+refusal-typed refusal.Attributes vs h = tt
+refusal-typed refusal.Owner vs h = tt
+refusal-typed refusal.Reset vs h = tt
+refusal-typed refusal.Bar vs h = tt
+refusal-typed refusal.Memory vs h = tt
+refusal-typed (refusal.Status x y) vs h = (h .1 .1 .1 .1 .0 .1, h .1 .1 .1 .1 .1 .0 .1)
+refusal-typed (refusal.Timeout x) vs h = h .1 .1 .1 .1 .0 .1
+refusal-typed refusal.Busy vs h = tt
+refusal-typed (refusal.Bus x) vs h = h .1 .1 .1 .1 .0 .1
+refusal-typed refusal.NotPrimary vs h = tt
+refusal-typed (refusal.Revision x) vs h = h .1 .1 .1 .1 .0 .1
+refusal-typed (refusal.MinPage x) vs h = h .1 .1 .1 .1 .0 .1
+refusal-typed (refusal.Ports x) vs h = h .1 .1 .1 .1 .0 .1
+refusal-typed (refusal.Uar x) vs h = h .1 .1 .1 .1 .0 .1
+refusal-typed (refusal.UarArea x) vs h = h .1 .1 .1 .1 .0 .1
+refusal-typed (refusal.Entry x) vs h = h .1 .1 .1 .1 .0 .1
+refusal-typed (refusal.Total x) vs h = h .1 .1 .1 .1 .0 .1
+refusal-typed refusal.Address vs h = tt
+refusal-typed refusal.Full vs h = tt
+refusal-typed refusal.Wrong vs h = tt
+refusal-typed refusal.Short vs h = tt
+refusal-typed refusal.Opcode vs h = tt
+refusal-typed refusal.Undo vs h = tt
+
+pub failure-typed : (v : Failure) (vs : List Val) → Is failure-row v vs → FailureFits v
+failure-typed failure.Nothing vs h = tt
+failure-typed (failure.By x) vs h = refusal-typed x _ (h .1 .1 .1 .1 .0)
+
+pub closing-typed : (v : Closing) (vs : List Val) → Is closing-row v vs → ClosingFits v
+closing-typed closing.Clean vs h = tt
+closing-typed closing.Reset vs h = tt
+closing-typed closing.Kept vs h = tt
+
+pub buffer-typed : (v : Buffer) (vs : List Val) → Is buffer-row v vs → BufferFits v
+buffer-typed v vs h = record {
+  handle = h .1 .1 .0 .1;
+  dev = h .1 .1 .1 .0 .1;
+  pages = h .1 .1 .1 .1 .0 .1;
+}
+
+pub hold-typed : (v : Hold) (vs : List Val) → Is hold-row v vs → HoldFits v
+hold-typed hold.Absent vs h = tt
+hold-typed (hold.Held x) vs h = buffer-typed x _ (h .1 .1 .1 .1 .0)
+
+pub held-typed : (v : Held) (vs : List Val) → Is held-row v vs → HeldFits v
+held-typed v vs h = record {
+  inbox = hold-typed (v .inbox) _ (h .1 .1 .0);
+  outbox = hold-typed (v .outbox) _ (h .1 .1 .1 .0);
+  fa = hold-typed (v .fa) _ (h .1 .1 .1 .1 .0);
+  aux = hold-typed (v .aux) _ (h .1 .1 .1 .1 .1 .0);
+}
+
+pub wire-typed : (v : Wire) (vs : List Val) → Is wire-row v vs → WireFits v
+wire-typed v vs h = record {
+  catas = catas-typed (v .catas) _ (h .1 .1 .1 .1 .1 .1 .0);
+}
