@@ -1,22 +1,24 @@
 -- WHAT IS WRITTEN IS READ BACK: a session that the code writes is one of its type, and its counts stay within their arrays; so the bytes hold it, and the next call begins
 -- from it.
 use Prim.Native.Nat.{ℕ, _≤_}
+use native.Mathlib.Omega.{arith}
 use mathlib.Core.Bool.{Bool, true, false}
 use mathlib.Core.List.{List, []}
-use mathlib.Core.Path.{_≡_, ap, sym, subst, _∙_}
-use borrow.Author.Tests.{le-ltb}
+use mathlib.Core.Path.{_≡_, refl, ap, sym, subst, _∙_}
+use borrow.Author.Tests.{le-ltb, ltb-false}
 use lib.Dec.{ltb}
 use lib.ListN.{length}
 use mir.Val.{Val}
 use denote.Laws.{Is}
-use Rattle.fields.specs.Outcome.{Outcome, value, refused, pick}
+use Rattle.fields.specs.Outcome.{Outcome, value, refused, numberOf, pick}
 use Rattle.fields.proofs.Outcomes.{same-value, never-refused}
-use Rattle.words_session.specs.Image.{decodeOf, putSession, keptAs, keptOf}
+use Rattle.words_session.specs.Image.{decodeOf, encodedIn, putSession, keptAs, keptOf}
 use Rattle.words_session.specs.declared.Decoded.{Decoded}
 use Rattle.words_session.specs.declared.Kept.the-variants as k
 use Rattle.words_laws.proofs.Trip.{trip}
 use Rattle.words_laws.proofs.Typed.{session-typed}
 use Rattle.words_laws.proofs.Poll.{given, counts-of}
+use Rattle.session.specs.Session.{fresh}
 use Rattle.session.specs.declared.Top.{Top}
 use Rattle.session.specs.declared.Failure.{Failure}
 use Rattle.session.specs.declared.Failure.the-variants as f
@@ -29,8 +31,8 @@ use Rattle.calls_plan.specs.Calls.{callable, callOf}
 use Rattle.calls_plan.specs.Counts.{Counted}
 use Rattle.calls_plan.specs.declared.Call.{Call}
 use Rattle.calls_plan.proofs.Counts.{call-counted, answer-counted}
-use Rattle.abi.specs.Turns.{stateBy}
-use Rattle.abi.specs.Kept.{givenBy, nextBy, callNext, answerNext, wantedNext, heardNext, Keeps, Holds, Writes}
+use Rattle.abi.specs.Turns.{freshCode, stateBy}
+use Rattle.abi.specs.Kept.{givenBy, nextBy, callNext, answerNext, wantedNext, heardNext, Keeps, Holds, Writes, Fresh}
 use Rattle.abi.proofs.Turns.{good}
 
 -- a session of its type was written over another
@@ -40,6 +42,19 @@ wrote y vs h f.Nothing s t e = λ x n d.
     let enough = given s x d .enough in
     ap decodeOf (e ∙ ap (λ b. pick b s (putSession s y)) (le-ltb (length s) 3336 enough)) ∙ trip s y (session-typed y vs h (n .0) (n .1)) enough
 wrote y vs h (f.By why) s t e = tt
+
+-- a fresh one was written
+pub fresh-held : (y : Session) (vs : List Val) → Is session-row y vs → y ≡ fresh → (s t : List ℕ) (n : ℕ) → n ≡ freshCode s → t ≡ encodedIn s y → Fresh n t
+unfolding Fresh
+fresh-held y vs h e s t n a b good = by (ltb (length s) 3336) refl
+  where
+    few : Counted (y .books .lists)
+    few = subst (λ (z : Session). Counted (z .books .lists)) (sym e) (omega arith, omega arith)
+
+    by : (g : Bool) → ltb (length s) 3336 ≡ g → decodeOf t ≡ value fresh
+    by true d = absurd (let z : _≡_ {A = ℕ} 0 21 = sym good ∙ a ∙ ap (λ g. numberOf {A = Unit {0}} (pick g (refused 21 []) (value tt))) d in omega arith)
+    by false d =
+        ap decodeOf (b ∙ ap (λ g. pick g s (putSession s y)) d) ∙ trip s y (session-typed y vs h (few .0) (few .1)) (ltb-false (length s) 3336 d) ∙ ap value e
 
 -- a session that was read has its counts within its arrays
 pub counted : (s : List ℕ) (x : Session) → decodeOf s ≡ value x → Counted (x .books .lists)

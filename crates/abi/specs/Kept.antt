@@ -9,6 +9,7 @@ use Rattle.fields.specs.Outcome.{Outcome, value, refused, pick}
 use Rattle.words_calls.specs.Calls.{heardOf}
 use Rattle.words_session.specs.Image.{decodeOf}
 use Rattle.pci.specs.declared.Answer.{Answer}
+use Rattle.session.specs.Session.{fresh}
 use Rattle.session.specs.declared.Top.{Top}
 use Rattle.session.specs.declared.Failure.{Failure}
 use Rattle.session.specs.declared.Failure.the-variants as f
@@ -64,3 +65,7 @@ Holds s z next = (x : Session) → Keeps s z x (next x)
 unfoldable pub Writes : Failure → Session → (before after : List ℕ) → Type 0
 Writes f.Nothing y s z = (x : Session) → Counted (y .books .lists) → Keeps s z x y
 Writes (f.By why) y s z = Unit {0}
+
+-- a fresh session was written: the bytes hold it
+unfoldable pub Fresh : (code : ℕ) → (after : List ℕ) → Type 0
+Fresh n z = n ≡ 0 → decodeOf z ≡ value fresh

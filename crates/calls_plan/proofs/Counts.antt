@@ -385,9 +385,9 @@ turn-in : (s : Session) → In s → (v : Answer) (x : Work) (i out : List ℕ) 
 turn-in s h v x i out top e.Going = h
 turn-in s h v x i out top (e.Ended y) = filled-in (planAt (withWork s x) y out top (s .stage) .fill) _ i (plan-in (withWork s x) h y out top (s .stage))
 
-step-in : (s : Session) → In s → (v : Answer) (res i out : List ℕ) (top : Top) → In (stepOf s v res i out top .session)
+pub step-counted : (s : Session) → Counted (s .books .lists) → (v : Answer) (res i out : List ℕ) (top : Top) → Counted (stepOf s v res i out top .session .books .lists)
 unfolding stepOf
-step-in s h v res i out top = turn-in s h v (workStepOf (s .work) v res .work) i out top (workStepOf (s .work) v res .ending)
+step-counted s h v res i out top = turn-in s h v (workStepOf (s .work) v res .work) i out top (workStepOf (s .work) v res .ending)
 
 by-turn : (t : Bool) (y z : Turn) → In (y .session) → In (z .session) → In (pick t y z .session)
 by-turn t y z h d = either (λ (v : Turn). In (v .session)) t y z (λ r. h) d
@@ -395,7 +395,7 @@ by-turn t y z h d = either (λ (v : Turn). In (v .session)) t y z (λ r. h) d
 -- AN ANSWER
 pub answer-counted : (s : Session) (v : Answer) (res i out : List ℕ) (top : Top) → Counted (s .books .lists) → Counted (answerOf s v res i out top .session .books .lists)
 answer-counted s v res i out top h =
-    by-turn (answerable s v) _ (refusedOf s x.Wrong (top .count)) (by-turn (isLent i out top) _ (refusedOf s x.Short (top .count)) (step-in s h v res i out top) h) h
+    by-turn (answerable s v) _ (refusedOf s x.Wrong (top .count)) (by-turn (isLent i out top) _ (refusedOf s x.Short (top .count)) (step-counted s h v res i out top) h) h
 
 -- A CALL
 begun-in : (s : Session) → In s → (y : Call) (top : Top) → After (planFor s y top)
@@ -406,9 +406,9 @@ begun-in s h (kn.UndoTo mark r) top = undo-to-in s h mark UNDOS top
 begun-in s h kn.Quiesce top = quiesce-in s h top
 begun-in s h kn.Close top = stop-in (withoutFailure s) h top
 
-begun-turn : (s : Session) → In s → (y : Call) (input i : List ℕ) (top : Top) → In (begunTurn s y input i top .session)
+pub begun-counted : (s : Session) → Counted (s .books .lists) → (y : Call) (input i : List ℕ) (top : Top) → Counted (begunTurn s y input i top .session .books .lists)
 unfolding begunTurn
-begun-turn s h y input i top = filled-in (planFor s y top .fill) _ (readyIn y input i) (begun-in s h y top)
+begun-counted s h y input i top = filled-in (planFor s y top .fill) _ (readyIn y input i) (begun-in s h y top)
 
 unless-in : (z : Failure) (s : Session) (y : Turn) (u : ℕ) → In (y .session) → In s → In (unless z y (λ v. refusedOf s v u) .session)
 unless-in f.Nothing s y u h d = h
@@ -417,4 +417,4 @@ unless-in (f.By v) s y u h d = d
 pub call-counted : (s : Session) (y : Call) (input i out : List ℕ) (top : Top) → Counted (s .books .lists) → Counted (callOf s y input i out top .session .books .lists)
 call-counted s y input i out top h =
     by-turn (callable s y) _ (refusedOf s x.Wrong (top .count))
-    (by-turn (lentFor y input i out top) _ (refusedOf s x.Short (top .count)) (unless-in (barred s y) s (begunTurn s y input i top) (top .count) (begun-turn s h y input i top) h) h) h
+    (by-turn (lentFor y input i out top) _ (refusedOf s x.Short (top .count)) (unless-in (barred s y) s (begunTurn s y input i top) (top .count) (begun-counted s h y input i top) h) h) h

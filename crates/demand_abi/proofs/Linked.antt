@@ -251,9 +251,14 @@ translate x s (hcaAnswer j p q res) i o l n w y d st = by (heardOf j p q) refl
 lift : (base : ℕ → Option Hold) (es : List Event) (x : Stand) (s : Session) → decodeOf (x .state) ≡ value s → ((gs : List v.Event) → w.Always base gs (standOf x s)) → Always base es x
 unfolding Holds Keeps
 lift base [] x s d all = (s, d, all [])
-lift base (e ∷ es) x s d all = (s, d, all [], λ y st.
-    let g = translate x s (e .call) (e .inbox) (e .outbox) (e .list) (e .count) (e .out) y d st in
-    lift base es y (next e s) (st .holds s d) (λ gs. all (g .0 ∷ gs) .1 (standOf y (next e s)) (g .1)))
+lift base (e ∷ es) x s d all = (
+  s,
+  d,
+  all [],
+  λ y st.
+      let g = translate x s (e .call) (e .inbox) (e .outbox) (e .list) (e .count) (e .out) y d st in
+      lift base es y (next e s) (st .holds s d) (λ gs. all (g .0 ∷ gs) .1 (standOf y (next e s)) (g .1)),
+)
 
 pub linked : Linked
 linked x s es = lift (x .world .host .hand) es x _ (s .session) (λ gs. demand (standOf x _) (record { session = refl; log = s .log; inbox = s .inbox; outbox = s .outbox }) gs)

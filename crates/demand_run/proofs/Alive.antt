@@ -1,11 +1,10 @@
 -- What the machine's plans keep, so that it goes on: the lists are within their arrays, and where a call runs a task is under way.
 use Prim.Native.Nat.{ℕ, zero, suc, _+_}
-use native.Mathlib.Omega.{arith}
 use mathlib.Core.Bool.{Bool, true, false, false≢true}
 use mathlib.Core.List.{List}
 use mathlib.Core.Path.{_≡_, refl, sym, _∙_, ap, subst}
 use lib.Dec.{eqb, ltb, leb}
-use borrow.Author.Tests.{eq-eqb, ltb-true, le-leb}
+use borrow.Author.Tests.{eq-eqb, leb-true, le-leb}
 use lib.ListN.{length}
 use Rattle.fields.specs.Outcome.{Outcome, value, refused, pick}
 use Rattle.dma.specs.Buffers.{pagesFor}
@@ -70,7 +69,7 @@ use Rattle.work.specs.declared.End.{End}
 use Rattle.work.specs.declared.Ending.{Ending}
 use Rattle.work.specs.declared.Ending.the-variants as e
 use Rattle.session.specs.Failures.{madeIn, needsReset}
-use Rattle.session.specs.Session.{session, starts, wired, listing, broken, tookOf, silencedOf, bookkeeps, informs}
+use Rattle.session.specs.Session.{session, starts, tookOf, silencedOf, bookkeeps, informs}
 use Rattle.session.specs.declared.Hold.{Hold}
 use Rattle.session.specs.declared.Hold.the-variants as o
 use Rattle.session.specs.declared.Top.{Top}
@@ -104,14 +103,15 @@ use Rattle.opening_plan.specs.Values.{enters, withCatas, withRevision, withCap,
 use Rattle.opening_plan.specs.Opening.{portsOf}
 use Rattle.opening_plan.specs.Plan as n
 use Rattle.opening_plan.specs.Plan.{attrIn, claimIn, barIn, failPlan, failByPlan, funcPlan, makePlan, nextRange, mappedPlan, mapPlan, areaPlan, layoutPlan, portPlan, fwReplied, capReplied, portReplied, funcReplied, bootPlanAt, bootPlan, preparePlanAt, preparePlan, lists}
-use Rattle.session.specs.declared.Lists.{Lists}
 use Rattle.work.specs.Work.{isResting}
 use Rattle.fw_plan.specs.Follows.{isRunning}
 use Rattle.fw_plan.specs.Calls.{isSession, withWork, filled, stepTurn, stepOf}
 use Rattle.calls_plan.specs.Calls.{withoutFailure, readyIn, planFor, begunTurn}
 use Rattle.calls_plan.specs.declared.Call.{Call}
 use Rattle.calls_plan.specs.declared.Call.the-variants as kn
+use Rattle.calls_plan.specs.Counts.{Counted}
 use Rattle.calls_plan.proofs.Begins.{length-ready}
+use Rattle.calls_plan.proofs.Counts.{step-counted, begun-counted}
 use Rattle.card.proofs.Bools.{and-left, and-right, and-true}
 
 -- the lists are within their arrays
@@ -128,8 +128,20 @@ Busy (g.Boot y) x = isResting x ≡ false
 Busy (g.Client y) x = isResting x ≡ false
 Busy (g.Close y) x = isResting x ≡ false
 
+abbrev Working : Session → Type 0
+Working s = Busy (s .stage) (s .work .task)
+
 abbrev pub Alive : Session → Type 0
-Alive s = Sized s × Busy (s .stage) (s .work .task)
+Alive s = Sized s × Working s
+
+sized : (s : Session) → Counted (s .books .lists) → Sized s
+sized s h = and-true (leb (s .books .lists .ranges) 14) (leb (s .books .lists .lends) 64) (le-leb _ 14 (h .0)) (le-leb _ 64 (h .1))
+
+counted : (s : Session) → Sized s → Counted (s .books .lists)
+counted s ok = (
+  leb-true (s .books .lists .ranges) 14 (and-left (leb (s .books .lists .ranges) 14) (leb (s .books .lists .lends) 64) ok),
+  leb-true (s .books .lists .lends) 64 (and-right (leb (s .books .lists .ranges) 14) (leb (s .books .lists .lends) 64) ok),
+)
 
 -- A TASK THAT GOES ON is under way
 abbrev IsGoing : Ending → Type 0
@@ -191,7 +203,7 @@ task-going v r bytes x h q = task-goes v r bytes x h (subst IsGoing (sym q) tt)
 module _ (i : List ℕ) (len : length i ≡ 4096) where
   -- a plan that was begun
   abbrev Begun : Planned → Type 0
-  Begun y = Alive (filled (y .fill) (y .session) i)
+  Begun y = Working (filled (y .fill) (y .session) i)
 
   begun-pick : (x : Bool) (y z : Planned) → Begun y → Begun z → Begun (pick x y z)
   begun-pick true y z h d = h
@@ -202,279 +214,244 @@ module _ (i : List ℕ) (len : length i ≡ 4096) where
   begun-hold (o.Held x) y z h d = h x
 
   -- CLOSING
-  module _ (s : Session) (ok : Sized s) (n : ℕ) where
+  module _ (s : Session) (n : ℕ) where
     given : Begun (givenPlan s n)
-    given = (refl, refl)
+    given = refl
 
     out-freed : Begun (outboxPlan s n)
     unfolding outboxPlan
-    out-freed = begun-hold (s .books .held .outbox) _ _ (λ d. (ok, refl)) given
+    out-freed = begun-hold (s .books .held .outbox) _ _ (λ d. refl) given
 
     in-freed : Begun (inboxPlan s n)
     unfolding inboxPlan
-    in-freed = begun-hold (s .books .held .inbox) _ _ (λ d. (ok, refl)) out-freed
+    in-freed = begun-hold (s .books .held .inbox) _ _ (λ d. refl) out-freed
 
     fa-freed : Begun (faPlan s n)
     unfolding faPlan
-    fa-freed = begun-hold (s .books .held .fa) _ _ (λ d. (ok, refl)) in-freed
+    fa-freed = begun-hold (s .books .held .fa) _ _ (λ d. refl) in-freed
 
     aux-freed : Begun (auxPlan s n)
     unfolding auxPlan
-    aux-freed = begun-hold (s .books .held .aux) _ _ (λ d. (ok, refl)) fa-freed
+    aux-freed = begun-hold (s .books .held .aux) _ _ (λ d. refl) fa-freed
 
     icm-freed : (j : ℕ) → Begun (icmPlan s j n)
     unfolding icmPlan
-    icm-freed j = begun-pick (ltb j (s .books .lists .ranges)) _ _ (ok, refl) aux-freed
+    icm-freed j = begun-pick (ltb j (s .books .lists .ranges)) _ _ refl aux-freed
 
     lent-freed : (j : ℕ) → Begun (lentPlan s j n)
     unfolding lentPlan
-    lent-freed j = begun-pick (ltb j (s .books .lists .lends)) _ _ (ok, refl) (icm-freed 0)
+    lent-freed j = begun-pick (ltb j (s .books .lists .lends)) _ _ refl (icm-freed 0)
 
-  not-done : (s : Session) → Sized s → (n : ℕ) → Begun (failedPlan s n)
+  not-done : (s : Session) (n : ℕ) → Begun (failedPlan s n)
   unfolding failedPlan
-  not-done s ok n = begun-pick (s .books .wire .silent) _ _ (ok, refl) (ok, refl)
+  not-done s n = begun-pick (s .books .wire .silent) _ _ refl refl
 
-  stopped : (s : Session) → Sized s → (n : ℕ) → Begun (stoppedPlan s n)
+  stopped : (s : Session) (n : ℕ) → Begun (stoppedPlan s n)
   unfolding stoppedPlan
-  stopped s ok n =
-      begun-pick (s .books .wire .silent) _ _ (ok, refl) (begun-pick (s .books .wire .running) _ _ (ok, refl) (lent-freed (closesOf s c.Clean (s .books)) ok n 0))
+  stopped s n =
+      begun-pick (s .books .wire .silent) _ _ refl (begun-pick (s .books .wire .running) _ _ refl (lent-freed (closesOf s c.Clean (s .books)) n 0))
 
-  fa-sent : (s : Session) → Sized s → (n : ℕ) → Begun (unmapFaPlan s n)
+  fa-sent : (s : Session) (n : ℕ) → Begun (unmapFaPlan s n)
   unfolding unmapFaPlan
-  fa-sent s ok n = begun-pick (isHeld (s .books .held .fa)) _ _ (ok, refl) (stopped s ok n)
+  fa-sent s n = begun-pick (isHeld (s .books .held .fa)) _ _ refl (stopped s n)
 
-  aux-sent : (s : Session) → Sized s → (n : ℕ) → Begun (unmapAuxPlan s n)
+  aux-sent : (s : Session) (n : ℕ) → Begun (unmapAuxPlan s n)
   unfolding unmapAuxPlan
-  aux-sent s ok n = begun-pick (isHeld (s .books .held .aux)) _ _ (ok, refl) (fa-sent s ok n)
+  aux-sent s n = begun-pick (isHeld (s .books .held .aux)) _ _ refl (fa-sent s n)
 
-  unmap-sent : (s : Session) → Sized s → (j n : ℕ) → Begun (unmapPlan s j n)
+  unmap-sent : (s : Session) (j n : ℕ) → Begun (unmapPlan s j n)
   unfolding unmapPlan
-  unmap-sent s ok zero n = aux-sent s ok n
-  unmap-sent s ok (suc j) n = (ok, refl)
+  unmap-sent s zero n = aux-sent s n
+  unmap-sent s (suc j) n = refl
 
-  hca-sent : (s : Session) → Sized s → (n : ℕ) → Begun (closeHcaPlan s n)
+  hca-sent : (s : Session) (n : ℕ) → Begun (closeHcaPlan s n)
   unfolding closeHcaPlan
-  hca-sent s ok n = begun-pick (s .books .started) _ _ (ok, refl) (unmap-sent s ok (s .books .lists .ranges) n)
+  hca-sent s n = begun-pick (s .books .started) _ _ refl (unmap-sent s (s .books .lists .ranges) n)
 
-  undo-sent : (s : Session) → Sized s → (j : ℕ) (y : Top) → Begun (undoSend s j y)
-  undo-sent s ok zero y = not-done s ok (y .count)
-  undo-sent s ok (suc j) y = begun-pick (isReserved (y .op)) _ _ (not-done s ok (y .count)) (ok, refl)
+  undo-sent : (s : Session) (j : ℕ) (y : Top) → Begun (undoSend s j y)
+  undo-sent s zero y = not-done s (y .count)
+  undo-sent s (suc j) y = begun-pick (isReserved (y .op)) _ _ (not-done s (y .count)) refl
 
-  undo-next : (s : Session) → Sized s → (j : ℕ) (y : Top) → Begun (undoPlan s j y)
+  undo-next : (s : Session) (j : ℕ) (y : Top) → Begun (undoPlan s j y)
   unfolding undoPlan
-  undo-next s ok j y = begun-pick (eqb (y .count) 0) _ _ (hca-sent s ok (y .count)) (undo-sent s ok j y)
+  undo-next s j y = begun-pick (eqb (y .count) 0) _ _ (hca-sent s (y .count)) (undo-sent s j y)
 
-  stop-begun : (s : Session) → Sized s → (y : Top) → Begun (stopPlan s y)
+  stop-begun : (s : Session) (y : Top) → Begun (stopPlan s y)
   unfolding stopPlan
-  stop-begun s ok y = begun-pick (s .books .wire .broken) _ _ (ok, refl) (undo-next s ok UNDOS y)
+  stop-begun s y = begun-pick (s .books .wire .broken) _ _ refl (undo-next s UNDOS y)
 
-  quiesce-begun : (s : Session) → Sized s → (y : Top) → Begun (quiescePlan s y)
+  quiesce-begun : (s : Session) (y : Top) → Begun (quiescePlan s y)
   unfolding quiescePlan
-  quiesce-begun s ok y = begun-pick (s .books .wire .broken) _ _ (ok, refl) (undo-next (silencedOf s) ok UNDOS y)
+  quiesce-begun s y = begun-pick (s .books .wire .broken) _ _ refl (undo-next (silencedOf s) UNDOS y)
 
-  close-begun : (s : Session) → Sized s → (y : End) (top : Top) (st : Close) → Begun (closePlanAt s y top st)
-  close-begun s ok y top (k.Undo j) = begun-pick (isDone (cmdIn y .result)) _ _ (undo-next (tookOf s (cmdIn y)) ok j top) (not-done (tookOf s (cmdIn y)) ok (top .count))
-  close-begun s ok y top k.CloseHca = begun-pick (isDone (cmdIn y .result)) _ _ (unmap-sent (tookOf s (cmdIn y)) ok (s .books .lists .ranges) (top .count)) (not-done (tookOf s (cmdIn y)) ok (top .count))
-  close-begun s ok y top (k.Unmap j) = begun-pick (isDone (cmdIn y .result)) _ _ (unmap-sent (tookOf s (cmdIn y)) ok j (top .count)) (not-done (tookOf s (cmdIn y)) ok (top .count))
-  close-begun s ok y top k.UnmapAux = begun-pick (isDone (cmdIn y .result)) _ _ (fa-sent (tookOf s (cmdIn y)) ok (top .count)) (not-done (tookOf s (cmdIn y)) ok (top .count))
-  close-begun s ok y top k.UnmapFa = begun-pick (isDone (cmdIn y .result)) _ _ (stopped (tookOf s (cmdIn y)) ok (top .count)) (not-done (tookOf s (cmdIn y)) ok (top .count))
-  close-begun s ok y top k.Quiesce = (ok, tt)
-  close-begun s ok y top k.Reset = begun-pick (isGood (resetIn y)) _ _ (lent-freed (closesOf s c.Reset (s .books)) ok (top .count) 0) (ok, refl)
-  close-begun s ok y top (k.FreeLent j) = lent-freed s ok (top .count) j
-  close-begun s ok y top (k.FreeIcm j) = icm-freed s ok (top .count) j
-  close-begun s ok y top k.FreeAux = fa-freed s ok (top .count)
-  close-begun s ok y top k.FreeFa = in-freed s ok (top .count)
-  close-begun s ok y top k.FreeInbox = out-freed s ok (top .count)
-  close-begun s ok y top k.FreeOutbox = given s ok (top .count)
-  close-begun s ok y top k.Release = (ok, refl)
-  close-begun s ok y top k.Restore = (ok, tt)
+  close-begun : (s : Session) (y : End) (top : Top) (st : Close) → Begun (closePlanAt s y top st)
+  close-begun s y top (k.Undo j) = begun-pick (isDone (cmdIn y .result)) _ _ (undo-next (tookOf s (cmdIn y)) j top) (not-done (tookOf s (cmdIn y)) (top .count))
+  close-begun s y top k.CloseHca = begun-pick (isDone (cmdIn y .result)) _ _ (unmap-sent (tookOf s (cmdIn y)) (s .books .lists .ranges) (top .count)) (not-done (tookOf s (cmdIn y)) (top .count))
+  close-begun s y top (k.Unmap j) = begun-pick (isDone (cmdIn y .result)) _ _ (unmap-sent (tookOf s (cmdIn y)) j (top .count)) (not-done (tookOf s (cmdIn y)) (top .count))
+  close-begun s y top k.UnmapAux = begun-pick (isDone (cmdIn y .result)) _ _ (fa-sent (tookOf s (cmdIn y)) (top .count)) (not-done (tookOf s (cmdIn y)) (top .count))
+  close-begun s y top k.UnmapFa = begun-pick (isDone (cmdIn y .result)) _ _ (stopped (tookOf s (cmdIn y)) (top .count)) (not-done (tookOf s (cmdIn y)) (top .count))
+  close-begun s y top k.Quiesce = tt
+  close-begun s y top k.Reset = begun-pick (isGood (resetIn y)) _ _ (lent-freed (closesOf s c.Reset (s .books)) (top .count) 0) refl
+  close-begun s y top (k.FreeLent j) = lent-freed s (top .count) j
+  close-begun s y top (k.FreeIcm j) = icm-freed s (top .count) j
+  close-begun s y top k.FreeAux = fa-freed s (top .count)
+  close-begun s y top k.FreeFa = in-freed s (top .count)
+  close-begun s y top k.FreeInbox = out-freed s (top .count)
+  close-begun s y top k.FreeOutbox = given s (top .count)
+  close-begun s y top k.Release = refl
+  close-begun s y top k.Restore = tt
 
   -- A CLIENT'S CALL
   outcome : (v : Outcome ℕ) (y : ℕ → Planned) (z : Planned) → ((j : ℕ) → Begun (y j)) → Begun z → Begun (byOutcome v y z)
   outcome (value j) y z h d = h j
   outcome (refused j vs) y z h d = d
 
-  broken-sized : (s : Session) → Sized s → (b : Bool) → Sized (bookkeeps s (pick b (wired (s .books) (broken (s .books .wire))) (s .books)))
-  broken-sized s ok true = ok
-  broken-sized s ok false = ok
-
-  out-filled : (b : Bool) (s : Session) → Alive s → Alive (filled (pick b w.Outbox w.Nothing) s i)
+  out-filled : (b : Bool) (s : Session) → Working s → Working (filled (pick b w.Outbox w.Nothing) s i)
   out-filled true s h = h
   out-filled false s h = h
 
-  command-begun : (s : Session) → Sized s → (y : Request) (n : ℕ) → Begun (commandPlan s y n)
+  command-begun : (s : Session) (y : Request) (n : ℕ) → Begun (commandPlan s y n)
   unfolding commandPlan
-  command-begun s ok y n = out-filled (givesOutput (y .form)) _ (ok, refl)
+  command-begun s y n = out-filled (givesOutput (y .form)) _ refl
 
-  lend-begun : (s : Session) → Sized s → (bytes n : ℕ) → Begun (lendPlan s bytes n)
+  lend-begun : (s : Session) (bytes n : ℕ) → Begun (lendPlan s bytes n)
   unfolding lendPlan
-  lend-begun s ok bytes n = outcome (pagesFor bytes) _ _ (λ j. (ok, refl)) (ok, tt)
+  lend-begun s bytes n = outcome (pagesFor bytes) _ _ (λ j. refl) tt
 
-  -- one lent buffer more, while there is room
-  lent-sized : (s : Session) → Sized s → (l : Lists) → l .ranges ≡ s .books .lists .ranges → l .lends ≡ s .books .lists .lends + 1
-      → (b : Bool) → ltb (s .books .lists .lends) 64 ≡ b → Sized (bookkeeps s (pick b (listing (s .books) l) (s .books)))
-  lent-sized s ok l e f true q =
-      and-true (leb (l .ranges) 14) (leb (l .lends) 64) (ap (λ (m : ℕ). leb m 14) e ∙ and-left (leb (s .books .lists .ranges) 14) _ ok)
-      (le-leb (l .lends) 64 (let z = ltb-true (s .books .lists .lends) 64 q in omega (arith, z, f)))
-  lent-sized s ok l e f false q = ok
+  lend-ended : (s : Session) (y : Made) (n : ℕ) → Begun (lendEnded s y n)
+  lend-ended s (m.Ready y) n = tt
+  lend-ended s (m.Refused y) n = tt
 
-  lend-ended : (s : Session) → Sized s → (y : Made) (n : ℕ) → Begun (lendEnded s y n)
-  lend-ended s ok (m.Ready y) n = (lent-sized s ok _ refl refl (ltb (s .books .lists .lends) 64) refl, tt)
-  lend-ended s ok (m.Refused y) n = (ok, tt)
+  client-undo : (s : Session) (mark j : ℕ) (y : Top) → Begun (cl.undoSend s mark j y)
+  client-undo s mark zero y = tt
+  client-undo s mark (suc j) y = begun-pick (isReserved (y .op)) _ _ tt refl
 
-  client-undo : (s : Session) → Sized s → (mark j : ℕ) (y : Top) → Begun (cl.undoSend s mark j y)
-  client-undo s ok mark zero y = (ok, tt)
-  client-undo s ok mark (suc j) y = begun-pick (isReserved (y .op)) _ _ (ok, tt) (ok, refl)
-
-  undo-begun : (s : Session) → Sized s → (mark j : ℕ) (y : Top) → Begun (cl.undoPlan s mark j y)
+  undo-begun : (s : Session) (mark j : ℕ) (y : Top) → Begun (cl.undoPlan s mark j y)
   unfolding cl.undoPlan
-  undo-begun s ok mark j y = begun-pick (leb (y .count) mark) _ _ (ok, tt) (begun-pick (s .books .wire .broken) _ _ (ok, tt) (client-undo s ok mark j y))
+  undo-begun s mark j y = begun-pick (leb (y .count) mark) _ _ tt (begun-pick (s .books .wire .broken) _ _ tt (client-undo s mark j y))
 
-  client-begun : (s : Session) → Sized s → (y : End) (top : Top) (st : Client) → Begun (clientPlanAt s y top st)
-  client-begun s ok y top (kc.Command x) = (broken-sized (tookOf s (cmdIn y)) ok (needsReset (cmdIn y .result)), tt)
-  client-begun s ok y top kc.Lend = lend-ended s ok (madeIn y) (top .count)
-  client-begun s ok y top (kc.UndoTo mark j) = begun-pick (isDone (cmdIn y .result)) _ _ (undo-begun (tookOf s (cmdIn y)) ok mark j top) (ok, tt)
+  client-begun : (s : Session) (y : End) (top : Top) (st : Client) → Begun (clientPlanAt s y top st)
+  client-begun s y top (kc.Command x) = tt
+  client-begun s y top kc.Lend = lend-ended s (madeIn y) (top .count)
+  client-begun s y top (kc.UndoTo mark j) = begun-pick (isDone (cmdIn y .result)) _ _ (undo-begun (tookOf s (cmdIn y)) mark j top) tt
 
   -- OPENING
-  failed : (s : Session) → Sized s → (y : Refusal) (top : Top) → Begun (failPlan s y top)
+  failed : (s : Session) (y : Refusal) (top : Top) → Begun (failPlan s y top)
   unfolding failPlan
-  failed s ok y top = stop-begun (n.withFailure s y) ok top
+  failed s y top = stop-begun (n.withFailure s y) top
 
-  failed-by : (s : Session) → Sized s → (y : CmdResult) (top : Top) → Begun (failByPlan s y top)
+  failed-by : (s : Session) (y : CmdResult) (top : Top) → Begun (failByPlan s y top)
   unfolding failByPlan
-  failed-by s ok y top = failed _ (broken-sized s ok (needsReset y)) _ top
+  failed-by s y top = failed _ _ top
 
-  made : (s : Session) → Sized s → (x : Area) (bytes : ℕ) (top : Top) → Begun (makePlan s x bytes top)
+  made : (s : Session) (x : Area) (bytes : ℕ) (top : Top) → Begun (makePlan s x bytes top)
   unfolding makePlan
-  made s ok x bytes top = outcome (pagesFor bytes) _ _ (λ j. (ok, refl)) (failed s ok _ top)
+  made s x bytes top = outcome (pagesFor bytes) _ _ (λ j. refl) (failed s _ top)
 
-  func : (s : Session) → Sized s → (top : Top) → Begun (funcPlan s top)
+  func : (s : Session) (top : Top) → Begun (funcPlan s top)
   unfolding funcPlan
-  func s ok top = begun-pick (eqb (s .info .cap .«num_sys_eqs») 0) _ _ (ok, refl) (ok, refl)
+  func s top = begun-pick (eqb (s .info .cap .«num_sys_eqs») 0) _ _ refl refl
 
-  range : (s : Session) → Sized s → (j : ℕ) (top : Top) → Begun (nextRange s j top)
+  range : (s : Session) (j : ℕ) (top : Top) → Begun (nextRange s j top)
   unfolding nextRange
-  range s ok j top = begun-pick (ltb j 13) _ _ (made s ok _ _ top) (ok, refl)
+  range s j top = begun-pick (ltb j 13) _ _ (made s _ _ top) refl
 
-  mapped : (s : Session) → Sized s → (x : Area) (top : Top) → Begun (mappedPlan s x top)
+  mapped : (s : Session) (x : Area) (top : Top) → Begun (mappedPlan s x top)
   unfolding mappedPlan
-  mapped s ok a.Fa top = (ok, refl)
-  mapped s ok a.Aux top = made s ok _ _ top
-  mapped s ok (a.Range j) top = range s ok j top
+  mapped s a.Fa top = refl
+  mapped s a.Aux top = made s _ _ top
+  mapped s (a.Range j) top = range s j top
 
   -- a page list is written, and its command posted
-  listed : (s : Session) → Sized s → (x : Area) (y : Cutter) → (q : Bool) → q ≡ true
-      → Alive (pick q (lists (starts s (g.Boot (b.Map x y)) t.Rest) (listedOf 63 256 y)) (starts s (g.Boot (b.Map x y)) t.Rest))
-  listed s ok x y true e = (ok, refl)
-  listed s ok x y false e = absurd (false≢true e)
+  listed : (s : Session) (x : Area) (y : Cutter) → (q : Bool) → q ≡ true
+      → Working (pick q (lists (starts s (g.Boot (b.Map x y)) t.Rest) (listedOf 63 256 y)) (starts s (g.Boot (b.Map x y)) t.Rest))
+  listed s x y true e = refl
+  listed s x y false e = absurd (false≢true e)
 
-  map-next : (s : Session) → Sized s → (x : Area) (y : Cutter) (top : Top) → Begun (mapPlan s x y top)
+  map-next : (s : Session) (x : Area) (y : Cutter) (top : Top) → Begun (mapPlan s x y top)
   unfolding mapPlan
-  map-next s ok x y top = begun-pick (eqb (y .left) 0) _ _ (mapped s ok x top) (listed s ok x y (eqb (length i) 4096) (eq-eqb (length i) 4096 len))
+  map-next s x y top = begun-pick (eqb (y .left) 0) _ _ (mapped s x top) (listed s x y (eqb (length i) 4096) (eq-eqb (length i) 4096 len))
 
-  -- one range more, while there is room
-  longer : (r m : ℕ) (b : Bool) → ltb r 14 ≡ b → leb r 14 ≡ true → leb (pick b (r + 1) r) 14 ≡ true
-  longer r m true q h = le-leb (r + 1) 14 (let z = ltb-true r 14 q in omega (arith, z))
-  longer r m false q h = h
+  area : (s : Session) (x : Area) (y : Made) (top : Top) → Begun (areaPlan s x y top)
+  area s x (m.Ready y) top = map-next (bookkeeps s (enters (s .info) x y (s .books))) x _ top
+  area s x (m.Refused y) top = failed s _ top
 
-  pick-ranges : (b : Bool) (x y : Lists) → pick b x y .ranges ≡ pick b (x .ranges) (y .ranges)
-  pick-ranges true x y = refl
-  pick-ranges false x y = refl
-
-  pick-lends : (b : Bool) (x y : Lists) → x .lends ≡ y .lends → pick b x y .lends ≡ y .lends
-  pick-lends true x y e = e
-  pick-lends false x y e = refl
-
-  entered : (s : Session) → Sized s → (x : Area) (z : Buffer) → Sized (bookkeeps s (enters (s .info) x z (s .books)))
-  entered s ok a.Fa z = ok
-  entered s ok a.Aux z = ok
-  entered s ok (a.Range j) z =
-      let l = s .books .lists in
-      let r = l .ranges in
-      and-true _ _
-      (ap (λ (m : ℕ). leb m 14) (pick-ranges (ltb r 14) _ l) ∙ longer r 0 (ltb r 14) refl (and-left (leb r 14) _ ok))
-      (ap (λ (m : ℕ). leb m 64) (pick-lends (ltb r 14) _ l refl) ∙ and-right (leb r 14) _ ok)
-
-  area : (s : Session) → Sized s → (x : Area) (y : Made) (top : Top) → Begun (areaPlan s x y top)
-  area s ok x (m.Ready y) top = map-next (bookkeeps s (enters (s .info) x y (s .books))) (entered s ok x y) x _ top
-  area s ok x (m.Refused y) top = failed s ok _ top
-
-  layout : (s : Session) → Sized s → (y : Outcome Layout) (top : Top) → Begun (layoutPlan s y top)
+  layout : (s : Session) (y : Outcome Layout) (top : Top) → Begun (layoutPlan s y top)
   unfolding layoutPlan
-  layout s ok (value y) top = (ok, refl)
-  layout s ok (refused j vs) top = failed s ok _ top
+  layout s (value y) top = refl
+  layout s (refused j vs) top = failed s _ top
 
-  port : (s : Session) → Sized s → (j : ℕ) (top : Top) → Begun (portPlan s j top)
+  port : (s : Session) (j : ℕ) (top : Top) → Begun (portPlan s j top)
   unfolding portPlan
-  port s ok j top = begun-pick (ltb j (portsOf (s .info))) _ _ (ok, refl) (layout s ok (profileOf (s .info .cap)) top)
+  port s j top = begun-pick (ltb j (portsOf (s .info))) _ _ refl (layout s (profileOf (s .info .cap)) top)
 
-  fw-replied : (s : Session) → Sized s → (y : Outcome FwInfo) (z : FwInfo) (top : Top) → Begun (fwReplied s y z top)
+  fw-replied : (s : Session) (y : Outcome FwInfo) (z : FwInfo) (top : Top) → Begun (fwReplied s y z top)
   unfolding fwReplied
-  fw-replied s ok (value y) z top = made (informs (bookkeeps s (withCatas (s .books) z)) (withRevision (s .info) (y .rev))) ok a.Fa _ top
-  fw-replied s ok (refused j vs) z top = failed (bookkeeps s (withCatas (s .books) z)) ok _ top
+  fw-replied s (value y) z top = made (informs (bookkeeps s (withCatas (s .books) z)) (withRevision (s .info) (y .rev))) a.Fa _ top
+  fw-replied s (refused j vs) z top = failed (bookkeeps s (withCatas (s .books) z)) _ top
 
-  cap-replied : (s : Session) → Sized s → (y : Outcome DevCap) (top : Top) → Begun (capReplied s y top)
+  cap-replied : (s : Session) (y : Outcome DevCap) (top : Top) → Begun (capReplied s y top)
   unfolding capReplied
-  cap-replied s ok (value y) top = port (informs s (withCap (s .info) y)) ok 0 top
-  cap-replied s ok (refused j vs) top = failed s ok _ top
+  cap-replied s (value y) top = port (informs s (withCap (s .info) y)) 0 top
+  cap-replied s (refused j vs) top = failed s _ top
 
-  port-replied : (s : Session) → Sized s → (j : ℕ) (y : Outcome PortInfo) (top : Top) → Begun (portReplied s j y top)
+  port-replied : (s : Session) (j : ℕ) (y : Outcome PortInfo) (top : Top) → Begun (portReplied s j y top)
   unfolding portReplied
-  port-replied s ok j (value y) top = port (informs s (withPort (s .info) j y)) ok j top
-  port-replied s ok j (refused d vs) top = failed s ok _ top
+  port-replied s j (value y) top = port (informs s (withPort (s .info) j y)) j top
+  port-replied s j (refused d vs) top = failed s _ top
 
-  func-replied : (s : Session) → Sized s → (y : Outcome FuncInfo) (top : Top) → Begun (funcReplied s y top)
+  func-replied : (s : Session) (y : Outcome FuncInfo) (top : Top) → Begun (funcReplied s y top)
   unfolding funcReplied
-  func-replied s ok (value y) top = (ok, refl)
-  func-replied s ok (refused j vs) top = failed s ok _ top
+  func-replied s (value y) top = refl
+  func-replied s (refused j vs) top = failed s _ top
 
-  boot-begun : (s : Session) → Sized s → (y : End) (out : List ℕ) (top : Top) (st : Boot) → Begun (bootPlanAt s y out top st)
-  boot-begun s ok y out top b.QueryFw =
-      begun-pick (isDone (cmdIn y .result)) _ _ (fw-replied (tookOf s (cmdIn y)) ok (queryFwOf out (s .info .uar .index)) _ top)
-      (failed _ (broken-sized (tookOf s (cmdIn y)) ok (needsReset (cmdIn y .result))) _ top)
-  boot-begun s ok y out top (b.Make x) = area s ok x (madeIn y) top
-  boot-begun s ok y out top (b.Map x z) = begun-pick (isDone (cmdIn y .result)) _ _ (map-next (tookOf s (cmdIn y)) ok x z top) (failed-by (tookOf s (cmdIn y)) ok (cmdIn y .result) top)
-  boot-begun s ok y out top b.RunFw = begun-pick (isDone (cmdIn y .result)) _ _ (ok, refl) (failed-by (tookOf s (cmdIn y)) ok (cmdIn y .result) top)
-  boot-begun s ok y out top b.ModStat = begun-pick (needsReset (cmdIn y .result)) _ _ (failed-by (tookOf s (cmdIn y)) ok (cmdIn y .result) top) (ok, refl)
-  boot-begun s ok y out top b.DevCap =
-      begun-pick (isDone (cmdIn y .result)) _ _ (cap-replied (tookOf s (cmdIn y)) ok (capabilityOf out (s .info .uar .size)) top) (failed-by (tookOf s (cmdIn y)) ok (cmdIn y .result) top)
-  boot-begun s ok y out top (b.Port j) =
-      begun-pick (isDone (cmdIn y .result)) _ _ (port-replied (tookOf s (cmdIn y)) ok j (queryPortOf out j) top) (failed-by (tookOf s (cmdIn y)) ok (cmdIn y .result) top)
-  boot-begun s ok y out top b.IcmSize = begun-pick (isDone (cmdIn y .result)) _ _ (made (tookOf s (cmdIn y)) ok a.Aux _ top) (failed-by (tookOf s (cmdIn y)) ok (cmdIn y .result) top)
-  boot-begun s ok y out top b.InitHca =
-      begun-pick (isDone (cmdIn y .result)) _ _ (func (bookkeeps (tookOf s (cmdIn y)) (nowStarted (tookOf s (cmdIn y) .books))) ok top) (failed-by (tookOf s (cmdIn y)) ok (cmdIn y .result) top)
-  boot-begun s ok y out top b.Func = begun-pick (isDone (cmdIn y .result)) _ _ (func-replied (tookOf s (cmdIn y)) ok (queryFuncOf out) top) (failed-by (tookOf s (cmdIn y)) ok (cmdIn y .result) top)
-  boot-begun s ok y out top b.Adapter = (ok, tt)
+  boot-begun : (s : Session) (y : End) (out : List ℕ) (top : Top) (st : Boot) → Begun (bootPlanAt s y out top st)
+  boot-begun s y out top b.QueryFw =
+      begun-pick (isDone (cmdIn y .result)) _ _ (fw-replied (tookOf s (cmdIn y)) (queryFwOf out (s .info .uar .index)) _ top)
+      (failed _ _ top)
+  boot-begun s y out top (b.Make x) = area s x (madeIn y) top
+  boot-begun s y out top (b.Map x z) = begun-pick (isDone (cmdIn y .result)) _ _ (map-next (tookOf s (cmdIn y)) x z top) (failed-by (tookOf s (cmdIn y)) (cmdIn y .result) top)
+  boot-begun s y out top b.RunFw = begun-pick (isDone (cmdIn y .result)) _ _ refl (failed-by (tookOf s (cmdIn y)) (cmdIn y .result) top)
+  boot-begun s y out top b.ModStat = begun-pick (needsReset (cmdIn y .result)) _ _ (failed-by (tookOf s (cmdIn y)) (cmdIn y .result) top) refl
+  boot-begun s y out top b.DevCap =
+      begun-pick (isDone (cmdIn y .result)) _ _ (cap-replied (tookOf s (cmdIn y)) (capabilityOf out (s .info .uar .size)) top) (failed-by (tookOf s (cmdIn y)) (cmdIn y .result) top)
+  boot-begun s y out top (b.Port j) =
+      begun-pick (isDone (cmdIn y .result)) _ _ (port-replied (tookOf s (cmdIn y)) j (queryPortOf out j) top) (failed-by (tookOf s (cmdIn y)) (cmdIn y .result) top)
+  boot-begun s y out top b.IcmSize = begun-pick (isDone (cmdIn y .result)) _ _ (made (tookOf s (cmdIn y)) a.Aux _ top) (failed-by (tookOf s (cmdIn y)) (cmdIn y .result) top)
+  boot-begun s y out top b.InitHca =
+      begun-pick (isDone (cmdIn y .result)) _ _ (func (bookkeeps (tookOf s (cmdIn y)) (nowStarted (tookOf s (cmdIn y) .books))) top) (failed-by (tookOf s (cmdIn y)) (cmdIn y .result) top)
+  boot-begun s y out top b.Func = begun-pick (isDone (cmdIn y .result)) _ _ (func-replied (tookOf s (cmdIn y)) (queryFuncOf out) top) (failed-by (tookOf s (cmdIn y)) (cmdIn y .result) top)
+  boot-begun s y out top b.Adapter = tt
 
-  attr : (s : Session) → Sized s → (y : Attributes) (top : Top) → Begun (n.attrPlan s y top)
-  attr s ok (at.Enabled v) top = (ok, refl)
-  attr s ok at.Refused top = (ok, tt)
+  attr : (s : Session) (y : Attributes) (top : Top) → Begun (n.attrPlan s y top)
+  attr s (at.Enabled v) top = refl
+  attr s at.Refused top = tt
 
-  claimed : (s : Session) → Sized s → (y : Claimed) (top : Top) → Begun (n.claimPlan s y top)
-  claimed s ok l.Good top = (ok, refl)
-  claimed s ok l.Refused top = (ok, refl)
+  claimed : (s : Session) (y : Claimed) (top : Top) → Begun (n.claimPlan s y top)
+  claimed s l.Good top = refl
+  claimed s l.Refused top = refl
 
-  bar : (s : Session) → Sized s → (y : Found) (top : Top) → Begun (n.barPlan s y top)
-  bar s ok (u.Bar y) top = (ok, refl)
-  bar s ok u.Refused top = (ok, refl)
+  bar : (s : Session) (y : Found) (top : Top) → Begun (n.barPlan s y top)
+  bar s (u.Bar y) top = refl
+  bar s u.Refused top = refl
 
-  in-made : (s : Session) → Sized s → (y : Made) (top : Top) → Begun (n.inboxPlan s y top)
-  in-made s ok (m.Ready y) top = (ok, refl)
-  in-made s ok (m.Refused y) top = (ok, refl)
+  in-made : (s : Session) (y : Made) (top : Top) → Begun (n.inboxPlan s y top)
+  in-made s (m.Ready y) top = refl
+  in-made s (m.Refused y) top = refl
 
-  out-made : (s : Session) → Sized s → (y : Made) (top : Top) → Begun (n.outboxPlan s y top)
-  out-made s ok (m.Ready y) top = (ok, refl)
-  out-made s ok (m.Refused y) top = begun-hold (s .books .held .inbox) _ _ (λ d. (ok, refl)) (refl, refl)
+  out-made : (s : Session) (y : Made) (top : Top) → Begun (n.outboxPlan s y top)
+  out-made s (m.Ready y) top = refl
+  out-made s (m.Refused y) top = begun-hold (s .books .held .inbox) _ _ (λ d. refl) refl
 
-  prepare-begun : (s : Session) → Sized s → (y : End) (top : Top) (st : Prepare) → Begun (preparePlanAt s y top st)
-  prepare-begun s ok y top p.Attributes = attr s ok (attrIn y) top
-  prepare-begun s ok y top p.Claim = claimed s ok (claimIn y) top
-  prepare-begun s ok y top p.Reset = begun-pick (isGood (resetIn y)) _ _ (ok, refl) (ok, refl)
-  prepare-begun s ok y top p.Bar = bar s ok (barIn y) top
-  prepare-begun s ok y top p.Inbox = in-made s ok (madeIn y) top
-  prepare-begun s ok y top p.Outbox = out-made s ok (madeIn y) top
-  prepare-begun s ok y top (p.GiveInbox x) = (refl, refl)
-  prepare-begun s ok y top p.Look = (ok, refl)
+  prepare-begun : (s : Session) (y : End) (top : Top) (st : Prepare) → Begun (preparePlanAt s y top st)
+  prepare-begun s y top p.Attributes = attr s (attrIn y) top
+  prepare-begun s y top p.Claim = claimed s (claimIn y) top
+  prepare-begun s y top p.Reset = begun-pick (isGood (resetIn y)) _ _ refl refl
+  prepare-begun s y top p.Bar = bar s (barIn y) top
+  prepare-begun s y top p.Inbox = in-made s (madeIn y) top
+  prepare-begun s y top p.Outbox = out-made s (madeIn y) top
+  prepare-begun s y top (p.GiveInbox x) = refl
+  prepare-begun s y top p.Look = refl
 
   -- A STEP
   going : (v : Work) (r : Answer) (bytes : List ℕ) → isResting (v .task) ≡ false → workStepOf v r bytes .ending ≡ e.Going → isResting (workStepOf v r bytes .work .task) ≡ false
@@ -484,48 +461,54 @@ module _ (i : List ℕ) (len : length i ≡ 4096) where
     abbrev was : Stage → Session
     was st = session st v d j f z
 
-    by-prepare : (st : Prepare) (x : Work) (n : Ending) → Sized (was (g.Prepare st)) → (n ≡ e.Going → isResting (x .task) ≡ false) → Alive (stepTurn (was (g.Prepare st)) r x i out top n .session)
+    by-prepare : (st : Prepare) (x : Work) (n : Ending) → (n ≡ e.Going → isResting (x .task) ≡ false) → Working (stepTurn (was (g.Prepare st)) r x i out top n .session)
     unfolding preparePlan
-    by-prepare st x e.Going ok h = (ok, h refl)
-    by-prepare st x (e.Ended y) ok h = prepare-begun (withWork (was (g.Prepare st)) x) ok y top st
+    by-prepare st x e.Going h = h refl
+    by-prepare st x (e.Ended y) h = prepare-begun (withWork (was (g.Prepare st)) x) y top st
 
-    by-boot : (st : Boot) (x : Work) (n : Ending) → Sized (was (g.Boot st)) → (n ≡ e.Going → isResting (x .task) ≡ false) → Alive (stepTurn (was (g.Boot st)) r x i out top n .session)
+    by-boot : (st : Boot) (x : Work) (n : Ending) → (n ≡ e.Going → isResting (x .task) ≡ false) → Working (stepTurn (was (g.Boot st)) r x i out top n .session)
     unfolding bootPlan
-    by-boot st x e.Going ok h = (ok, h refl)
-    by-boot st x (e.Ended y) ok h = boot-begun (withWork (was (g.Boot st)) x) ok y out top st
+    by-boot st x e.Going h = h refl
+    by-boot st x (e.Ended y) h = boot-begun (withWork (was (g.Boot st)) x) y out top st
 
-    by-client : (st : Client) (x : Work) (n : Ending) → Sized (was (g.Client st)) → (n ≡ e.Going → isResting (x .task) ≡ false) → Alive (stepTurn (was (g.Client st)) r x i out top n .session)
+    by-client : (st : Client) (x : Work) (n : Ending) → (n ≡ e.Going → isResting (x .task) ≡ false) → Working (stepTurn (was (g.Client st)) r x i out top n .session)
     unfolding clientPlan
-    by-client st x e.Going ok h = (ok, h refl)
-    by-client st x (e.Ended y) ok h = client-begun (withWork (was (g.Client st)) x) ok y top st
+    by-client st x e.Going h = h refl
+    by-client st x (e.Ended y) h = client-begun (withWork (was (g.Client st)) x) y top st
 
-    by-close : (st : Close) (x : Work) (n : Ending) → Sized (was (g.Close st)) → (n ≡ e.Going → isResting (x .task) ≡ false) → Alive (stepTurn (was (g.Close st)) r x i out top n .session)
+    by-close : (st : Close) (x : Work) (n : Ending) → (n ≡ e.Going → isResting (x .task) ≡ false) → Working (stepTurn (was (g.Close st)) r x i out top n .session)
     unfolding closePlan
-    by-close st x e.Going ok h = (ok, h refl)
-    by-close st x (e.Ended y) ok h = close-begun (withWork (was (g.Close st)) x) ok y top st
+    by-close st x e.Going h = h refl
+    by-close st x (e.Ended y) h = close-begun (withWork (was (g.Close st)) x) y top st
 
-    by-stage : (st : Stage) → isRunning st ≡ true → Sized (was st) → isResting (v .task) ≡ false → Alive (stepOf (was st) r bytes i out top .session)
+    by-stage : (st : Stage) → isRunning st ≡ true → isResting (v .task) ≡ false → Working (stepOf (was st) r bytes i out top .session)
     unfolding stepOf
-    by-stage g.Fresh q ok h = absurd (false≢true q)
-    by-stage (g.Open y) q ok h = absurd (false≢true q)
-    by-stage g.Ended q ok h = absurd (false≢true q)
-    by-stage (g.Prepare st) q ok h = by-prepare st (workStepOf v r bytes .work) (workStepOf v r bytes .ending) ok (going v r bytes h)
-    by-stage (g.Boot st) q ok h = by-boot st (workStepOf v r bytes .work) (workStepOf v r bytes .ending) ok (going v r bytes h)
-    by-stage (g.Client st) q ok h = by-client st (workStepOf v r bytes .work) (workStepOf v r bytes .ending) ok (going v r bytes h)
-    by-stage (g.Close st) q ok h = by-close st (workStepOf v r bytes .work) (workStepOf v r bytes .ending) ok (going v r bytes h)
+    by-stage g.Fresh q h = absurd (false≢true q)
+    by-stage (g.Open y) q h = absurd (false≢true q)
+    by-stage g.Ended q h = absurd (false≢true q)
+    by-stage (g.Prepare st) q h = by-prepare st (workStepOf v r bytes .work) (workStepOf v r bytes .ending) (going v r bytes h)
+    by-stage (g.Boot st) q h = by-boot st (workStepOf v r bytes .work) (workStepOf v r bytes .ending) (going v r bytes h)
+    by-stage (g.Client st) q h = by-client st (workStepOf v r bytes .work) (workStepOf v r bytes .ending) (going v r bytes h)
+    by-stage (g.Close st) q h = by-close st (workStepOf v r bytes .work) (workStepOf v r bytes .ending) (going v r bytes h)
 
-  pub step-alive : (s : Session) (r : Answer) (bytes out : List ℕ) (top : Top) → isRunning (s .stage) ≡ true → Sized s → isResting (s .work .task) ≡ false → Alive (stepOf s r bytes i out top .session)
-  step-alive s r bytes out top q ok h = by-stage (s .books) (s .info) (s .failure) (s .closing) (s .work) r bytes out top (s .stage) q ok h
+  step-busy : (s : Session) (r : Answer) (bytes out : List ℕ) (top : Top) → isRunning (s .stage) ≡ true → isResting (s .work .task) ≡ false → Working (stepOf s r bytes i out top .session)
+  step-busy s r bytes out top q h = by-stage (s .books) (s .info) (s .failure) (s .closing) (s .work) r bytes out top (s .stage) q h
 
   -- A CALL BEGINS
-  call-begun : (s : Session) → Sized s → (y : Call) (top : Top) → Begun (planFor s y top)
-  call-begun s ok kn.Open top = (refl, refl)
-  call-begun s ok (kn.Command y) top = command-begun s ok y (top .count)
-  call-begun s ok (kn.Lend bytes) top = lend-begun s ok bytes (top .count)
-  call-begun s ok (kn.UndoTo mark y) top = undo-begun s ok mark UNDOS top
-  call-begun s ok kn.Quiesce top = quiesce-begun s ok top
-  call-begun s ok kn.Close top = stop-begun (withoutFailure s) ok top
+  call-begun : (s : Session) (y : Call) (top : Top) → Begun (planFor s y top)
+  call-begun s kn.Open top = refl
+  call-begun s (kn.Command y) top = command-begun s y (top .count)
+  call-begun s (kn.Lend bytes) top = lend-begun s bytes (top .count)
+  call-begun s (kn.UndoTo mark y) top = undo-begun s mark UNDOS top
+  call-begun s kn.Quiesce top = quiesce-begun s top
+  call-begun s kn.Close top = stop-begun (withoutFailure s) top
+
+-- BOTH: a task is under way, and the counts are within their arrays
+pub step-alive : (i : List ℕ) → length i ≡ 4096 → (s : Session) (r : Answer) (bytes out : List ℕ) (top : Top) → isRunning (s .stage) ≡ true → Sized s → isResting (s .work .task) ≡ false
+    → Alive (stepOf s r bytes i out top .session)
+step-alive i len s r bytes out top q ok h = (sized (stepOf s r bytes i out top .session) (step-counted s (counted s ok) r bytes i out top), step-busy i len s r bytes out top q h)
 
 pub call-alive : (i : List ℕ) → length i ≡ 4096 → (s : Session) → Sized s → (y : Call) (input : List ℕ) (top : Top) → Alive (begunTurn s y input i top .session)
 unfolding begunTurn
-call-alive i len s ok y input top = call-begun (readyIn y input i) (length-ready y input i ∙ len) s ok y top
+call-alive i len s ok y input top =
+    (sized (begunTurn s y input i top .session) (begun-counted s (counted s ok) y input i top), call-begun (readyIn y input i) (length-ready y input i ∙ len) s y top)

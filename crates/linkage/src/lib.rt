@@ -15,6 +15,7 @@ ghost use Rattle.abi.specs.Kept as k;
 pub extern "C" fn hca_fresh(state: &mut [u8]) -> u32
     ensures { λ r. ⌜ r ≡ t.freshCode (now (state .entry)) ⌝ }
     ensures { λ _. ⌜ now (state .exit) ≡ t.freshIn (now (state .entry)) ⌝ }
+    ensures { λ r. ⌜ k.Fresh r (now (state .exit)) ⌝ }
 {
     turns::fresh_bytes(state)
 }

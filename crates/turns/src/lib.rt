@@ -35,6 +35,7 @@ pub fn taken(t: Turn, state: &mut [u8], out: &mut [u8]) -> u32
 pub fn fresh_bytes(state: &mut [u8]) -> u32
     ensures { λ r. ⌜ r ≡ c.freshCode (now (state .entry)) ⌝ }
     ensures { λ _. ⌜ now (state .exit) ≡ c.freshIn (now (state .entry)) ⌝ }
+    ensures { λ r. ⌜ k.Fresh r (now (state .exit)) ⌝ }
 {
     match words_session::encode(state, Session::fresh()) {
         Wrote::Done => 0,

@@ -1,4 +1,5 @@
 use borrow.Author.Needs.{needs}
+use Rattle.abi.proofs.Kept.{fresh-held}
 use Rattle.turns.proofs.fresh_bytes.Statement.{statement}
 use Rattle.turns.proofs.fresh_bytes.Tie as tie
 
@@ -11,12 +12,16 @@ returns c = (
     c .before .match .keys1,
     c .enum-told .given .1,
   ),
-  simp (
-    c .before .before .before .before .before .fresh .ensures,
-    ← (c .before .before .before .before .encode .ensures .0),
-    c .before .before .before .before .encode .ensures .1,
-    c .before .match .keys1,
-    c .enum-told .given .1,
+  (
+    simp (
+      c .before .before .before .before .before .fresh .ensures,
+      ← (c .before .before .before .before .encode .ensures .0),
+      c .before .before .before .before .encode .ensures .1,
+      c .before .match .keys1,
+      c .enum-told .given .1,
+    ),
+    fresh-held _ _ (c .before .before .before .before .before .fresh .ok) (c .before .before .before .before .before .fresh .ensures) (c .before .before .before .before .before .before .before .before .args .state .now) _ _
+        (simp (← (c .before .before .before .before .encode .ensures .0), c .before .match .keys1, c .enum-told .given .1)) (c .before .before .before .before .encode .ensures .1),
   ),
 )
 
@@ -29,12 +34,16 @@ returns-2 c = (
     c .before .match .keys2,
     c .enum-told2 .given .1,
   ),
-  simp (
-    c .before .before .before .before .before .fresh .ensures,
-    ← (c .before .before .before .before .encode .ensures .0),
-    c .before .before .before .before .encode .ensures .1,
-    c .before .match .keys2,
-    c .enum-told2 .given .1,
+  (
+    simp (
+      c .before .before .before .before .before .fresh .ensures,
+      ← (c .before .before .before .before .encode .ensures .0),
+      c .before .before .before .before .encode .ensures .1,
+      c .before .match .keys2,
+      c .enum-told2 .given .1,
+    ),
+    fresh-held _ _ (c .before .before .before .before .before .fresh .ok) (c .before .before .before .before .before .fresh .ensures) (c .before .before .before .before .before .before .before .before .args .state .now) _ _
+        (simp (← (c .before .before .before .before .encode .ensures .0), c .before .match .keys2, c .enum-told2 .given .1)) (c .before .before .before .before .encode .ensures .1),
   ),
 )
 
