@@ -1,6 +1,6 @@
 -- WHAT IS WRITTEN IS READ BACK: a session that the code writes is one of its type, and its counts stay within their arrays; so the bytes hold it, and the next call begins
 -- from it.
-use Prim.Native.Nat.{ℕ, _≤_}
+use Prim.Native.Nat.{ℕ}
 use native.Mathlib.Omega.{arith}
 use mathlib.Core.Bool.{Bool, true, false}
 use mathlib.Core.List.{List, []}

@@ -1,13 +1,13 @@
 -- Where the bytes hold a session, an answer by the poll's own words alone is the answer by the whole session: `poll-is-whole`.
-use Prim.Native.Nat.{ℕ, _+_, _*_, _≤_, _<_}
+use Prim.Native.Nat.{ℕ, _+_, _*_, _≤_}
 use mathlib.Core.Bool.{Bool, true, false, _&&_, not}
 use mathlib.Core.Path.{_≡_, refl, ap, sym, _∙_}
 use mathlib.Core.List.{List, [], _∷_, _++_}
 use native.Mathlib.Omega.{arith}
-use borrow.Author.Tests.{ltb-false, leb-true, le-ltb, le-leb, lt-ltb}
+use borrow.Author.Tests.{ltb-false, leb-true, le-ltb, le-leb}
 use lib.ListN.{length, getD}
 use lib.Dec.{eqb, ltb, leb}
-use Rattle.fields.specs.Outcome.{Outcome, value, refused, pick}
+use Rattle.fields.specs.Outcome.{value, pick}
 use Rattle.fields.proofs.Laws.{Bytes}
 use Rattle.hcr.specs.Words.{pendingIn, swapOf, waitedOf}
 use Rattle.words.specs.Words.{at, wordsIn, putWords, bitOf}
@@ -15,7 +15,7 @@ use Rattle.words.proofs.Laws.{BytesFrom, bit-back, put-append, words-after, wor
 use Rattle.words_task.specs.Coding.{taskWords, cmdWords, phaseWords, catasWords}
 use Rattle.words_session.specs.Image.{decodeOf, encodedIn, putHot}
 use Rattle.words_laws.specs.Kept.{withTask}
-use Rattle.words_laws.proofs.Poll.{Given, given, counts-of, parts-of, poll-alone}
+use Rattle.words_laws.proofs.Poll.{given, counts-of, parts-of, poll-alone}
 use Rattle.command.specs.Machine.{inPhase, stalledBy, cmdAsks, cmdStepOf}
 use Rattle.command.specs.declared.Cmd.{Cmd}
 use Rattle.command.specs.declared.Phase.{Phase}

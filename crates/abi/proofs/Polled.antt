@@ -1,18 +1,18 @@
 -- A POLL LEAVES A SESSION: where the bytes held one, they hold what the answer makes of it, though two words alone were written.
-use Prim.Native.Nat.{ℕ, _%_, _^_, _<_}
+use Prim.Native.Nat.{ℕ, _^_, _<_}
 use native.Mathlib.Omega.{arith}
 use mathlib.Core.Bool.{Bool, true, false}
 use mathlib.Core.List.{List}
 use mathlib.Core.Path.{_≡_, refl, ap, sym, subst, _∙_}
 use borrow.Author.Tests.{le-leb, ltb-true}
 use lib.Dec.{eqb}
-use Rattle.fields.specs.Outcome.{value, pick}
+use Rattle.fields.specs.Outcome.{value}
 use Rattle.fields.specs.declared.Order.the-variants.{Big}
 use Rattle.fields.proofs.Laws.{Bytes, number-lt}
 use Rattle.words.specs.Words.{at, wordAt, wordsIn}
 use Rattle.words_task.specs.Coding.{taskWords, taskOf, cmdOf, catasOf}
 use Rattle.words_task.specs.Fits.{CatasFits, CmdFits}
-use Rattle.words_session.specs.Image.{decodeOf, putHot}
+use Rattle.words_session.specs.Image.{decodeOf}
 use Rattle.words_laws.specs.Kept.{withTask}
 use Rattle.words_laws.proofs.Poll.{given, counts-of, polled}
 use Rattle.command.specs.Machine.{inPhase, stalledBy}
@@ -28,7 +28,7 @@ use Rattle.poll.specs.Poll.{pollIn, pollOn, readyFor, onwardOf, stallIn, readIn
 use Rattle.poll.specs.declared.Poll.{Poll}
 use Rattle.poll.specs.declared.Onward.the-variants as o
 use Rattle.abi.specs.Kept.{answerNext, Keeps, Holds}
-use Rattle.abi.proofs.Poll.{leads, task-stalls, task-reads, Reading, Waiting, Ready, ready, Goes, task-words, task-poll, reading-goes, waiting-goes, stall-hot, read-hot}
+use Rattle.abi.proofs.Poll.{leads, task-stalls, task-reads, Ready, ready, Goes, task-words, task-poll, reading-goes, waiting-goes, stall-hot, read-hot}
 
 -- THE COMMAND THAT WAS READ: its numbers are below the bounds of their widths, since its words were cut to them
 record Small (c : Cmd) : Type 0 where

@@ -25,7 +25,7 @@ use Rattle.fw_plan.proofs.Refusals.{answer-left}
 use Rattle.calls_plan.specs.Calls.{callable, callOf, callIn, callOut}
 use Rattle.calls_plan.specs.declared.Call.{Call}
 use Rattle.calls_plan.proofs.Refusals.{call-left}
-use Rattle.abi.specs.Turns.{After, after, codeBy, stateBy, outBy, taken, turned, onSession, callKnown, answerKnown, called, answered}
+use Rattle.abi.specs.Turns.{After, after, codeBy, stateBy, outBy, taken, onSession, callKnown, answerKnown, called, answered}
 use Rattle.abi.specs.Calls.{wantedBy, callFrom, made, onwardBy, answer, heardBy, told}
 
 -- refused, and all four slices as they were

@@ -1,17 +1,17 @@
 -- Laws of the words of tables and ranges: a turn of each loop that puts them, and how many there are.
-use Prim.Native.Nat.{ℕ, suc, _+_, _*_, _≤_, _<_}
+use Prim.Native.Nat.{ℕ, suc, _+_, _*_, _<_}
 use mathlib.Core.Path.{_≡_, refl, ap, sym, _∙_}
 use mathlib.Core.List.{List, [], _∷_, _++_}
 use native.Mathlib.Numerals.{add-one}
 use native.Mathlib.Omega.{arith}
-use lib.ListN.{length, drop, getD, length-append}
+use lib.ListN.{length, drop, getD}
 use lib.Seq.{drop-cons}
 use Rattle.layout.specs.declared.Table.{Table}
 use Rattle.layout.specs.declared.Range.{Range}
 use Rattle.answers.specs.Words.{putWords}
 use Rattle.answers.specs.Tables.{rowWords, rowsWords, rangeWords, rangesWords}
 use Rattle.answers.specs.declared.tables.Judged.{Judged}
-use Rattle.answers.proofs.Laws.{put-append, length-put}
+use Rattle.answers.proofs.Laws.{put-append}
 
 pub rows-more : (s : List ℕ) (ts : List Table) (k i : ℕ) (d : Table) → i < length ts
     → putWords (putWords s (k + i * 5) (rowWords (getD ts i d))) (k + (i + 1) * 5) (rowsWords (drop (i + 1) ts)) ≡ putWords s (k + i * 5) (rowsWords (drop i ts))

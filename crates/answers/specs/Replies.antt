@@ -1,7 +1,7 @@
 -- What the card's replies give as words.
 use Prim.Native.Nat.{ℕ}
 use mathlib.Core.Bool.{Bool, true, false}
-use mathlib.Core.List.{List, [], _∷_, _++_}
+use mathlib.Core.List.{List, [], _∷_}
 use lib.ListN.{getD, replicate}
 use Rattle.fields.specs.Outcome.{Outcome, value, refused, numberOf}
 use Rattle.bars.specs.declared.Size.{Size}

@@ -1,12 +1,12 @@
 -- A buffer's pages are few enough for its bytes.
-use Prim.Native.Nat.{ℕ, _+_, _-_, _*_, _/_, _^_, _≤_, _<_, max}
+use Prim.Native.Nat.{ℕ, _+_, _-_, _*_, _/_, _^_, _<_, max}
 use mathlib.Core.Bool.{Bool, true, false}
 use mathlib.Core.List.{[]}
 use mathlib.Core.Path.{_≡_, refl}
 use native.Mathlib.Omega.{arith}
 use lib.Dec.{leb}
 use borrow.Author.Tests.{leb-true}
-use Rattle.fields.specs.Outcome.{Outcome, value, refused, pick}
+use Rattle.fields.specs.Outcome.{value, refused, pick}
 use Rattle.dma.specs.Buffers.{pagesFor}
 
 by-test : (bytes n : ℕ) (b : Bool) → leb bytes (2 ^ 64 - 4096) ≡ b → value n ≡ pick b (value (max 1 ((bytes + 4095) / 4096))) (refused 18 []) → n * 4096 < 2 ^ 64

@@ -1,29 +1,23 @@
 -- Every state of the two machines does what is left of its script, and a start has the whole script before it.
-use Prim.Native.Nat.{ℕ, _+_, _*_, _/_, _-_, _^_, _≤_, _<_, max}
+use Prim.Native.Nat.{ℕ, _*_, _/_, _-_}
 use mathlib.Core.Bool.{Bool, true, false}
-use mathlib.Core.List.{List, []}
 use mathlib.Core.Path.{_≡_, refl, ap}
 use native.Mathlib.Omega.{arith}
-use lib.Dec.{eqb, leb}
-use borrow.Author.Tests.{leb-true}
+use lib.Dec.{eqb}
 use Rattle.fields.specs.Outcome.{Outcome, value, refused, pick}
 use Rattle.dma.specs.Buffers.{pagesFor, acceptAt}
 use Rattle.dma.specs.declared.Buffer.{Buffer}
-use Rattle.pci.specs.Script.{Script, ret, ask, free}
-use Rattle.pci.specs.Machine.{Next, rest, Follows}
+use Rattle.pci.specs.Script.{Script}
+use Rattle.pci.specs.Machine.{rest, Follows}
 use Rattle.pci.proofs.Cases.{handle-case, map-case, done-case}
-use Rattle.buffer.specs.Buffer.{byOutcome, release, mapping, allocating, making, freeing}
-use Rattle.buffer.specs.Steps.{inPhase, pagesIn, allocated, spotted, mapStep, unmapped, freed, makeOf, makeNext, makeAsks, makeStep, makeScript, MakeFollows, startFree, freeStepAt, freeNext, freeAsks, freeStep, freeScript, FreeFollows}
-use Rattle.buffer.specs.declared.Fault.the-variants as f
+use Rattle.buffer.specs.Buffer.{byOutcome, allocating, making, freeing}
+use Rattle.buffer.specs.Steps.{allocated, mapStep, unmapped, freed, makeOf, makeNext, makeAsks, makeStep, makeScript, MakeFollows, startFree, freeStepAt, freeNext, freeAsks, freeStep, freeScript, FreeFollows}
 use Rattle.buffer.specs.declared.Made.{Made}
-use Rattle.buffer.specs.declared.Made.the-variants as m
 use Rattle.buffer.specs.declared.MakePhase.{MakePhase}
 use Rattle.buffer.specs.declared.MakePhase.the-variants as p
-use Rattle.buffer.specs.declared.Making.{Making}
 use Rattle.buffer.specs.declared.MakeStep.{MakeStep}
 use Rattle.buffer.specs.declared.FreePhase.{FreePhase}
 use Rattle.buffer.specs.declared.FreePhase.the-variants as e
-use Rattle.buffer.specs.declared.Freeing.{Freeing}
 
 -- the script that a step leaves
 abbrev pub left : MakeStep → Script Made

@@ -1,7 +1,6 @@
 -- A buffer is made and freed, as scripts. Document 01: "5 allocate or map fails", "18 device address no page multiple, its end above 2^64, or bytes above
 -- 2^64 − 4,096", "A buffer mapped at an address refused with 18 is unmapped and freed."
 use Prim.Native.Nat.{ℕ, _*_}
-use mathlib.Core.Bool.{Bool}
 use mathlib.Core.List.{[]}
 use lib.Dec.{eqb}
 use Rattle.fields.specs.Outcome.{Outcome, value, refused, pick}

@@ -1,8 +1,6 @@
 -- The two machines: the question of each state, what an answer makes of it, and the script that is left.
 use Prim.Native.Nat.{ℕ, _*_, _/_}
-use mathlib.Core.Bool.{Bool}
 use mathlib.Core.List.{List}
-use mathlib.Core.Path.{_≡_}
 use lib.Dec.{eqb}
 use Rattle.fields.specs.Outcome.{pick}
 use Rattle.dma.specs.Buffers.{pagesFor, acceptAt}
@@ -19,7 +17,7 @@ use Rattle.pci.specs.declared.HandleReply.{HandleReply}
 use Rattle.pci.specs.declared.HandleReply.the-variants as h
 use Rattle.pci.specs.declared.MapReply.{MapReply}
 use Rattle.pci.specs.declared.MapReply.the-variants as d
-use Rattle.buffer.specs.Buffer.{byOutcome, release, mapping, allocating, making, freeing}
+use Rattle.buffer.specs.Buffer.{byOutcome, release, mapping, allocating, freeing}
 use Rattle.buffer.specs.declared.Fault.{Fault}
 use Rattle.buffer.specs.declared.Fault.the-variants as f
 use Rattle.buffer.specs.declared.Made.{Made}

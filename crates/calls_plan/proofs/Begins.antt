@@ -1,14 +1,13 @@
 -- A CALL BEGINS with the whole course before it.
-use Prim.Native.Nat.{ℕ, zero, suc}
+use Prim.Native.Nat.{ℕ, suc}
 use mathlib.Core.Bool.{Bool, true, false}
 use mathlib.Core.List.{List, [], _∷_}
-use mathlib.Core.Path.{_≡_, refl, ap, sym, _∙_}
-use lib.ListN.{length, replicate, length-replicate}
+use mathlib.Core.Path.{_≡_, refl, ap, _∙_}
+use lib.ListN.{length, length-replicate}
 use Rattle.fields.specs.Outcome.{pick}
 use Rattle.command.specs.declared.CmdResult.{CmdResult}
 use Rattle.session.specs.Session.{fresh, sendsOf, planned}
 use Rattle.session.specs.Course.{Course, Here, here, blank, sends, Rest}
-use Rattle.session.specs.declared.Top.{Top}
 use Rattle.session.specs.declared.Books.{Books}
 use Rattle.session.specs.declared.Stage.the-variants as g
 use Rattle.session.specs.declared.Fill.the-variants as w
@@ -22,7 +21,6 @@ use Rattle.client_plan.specs.declared.Request.{Request}
 use Rattle.client_plan.proofs.Lands as cl
 use Rattle.opening_plan.specs.Plan.{prepareCourse, bootCourse}
 use Rattle.opening_plan.proofs.Lands.{leads, wrote, open-lands}
-use Rattle.fw_plan.specs.Calls.{begunOf, begunIn, begunOut}
 use Rattle.fw_plan.specs.Follows.{courseOf}
 use Rattle.fw_plan.proofs.Landed.{counted, begun-leads}
 use Rattle.calls_plan.specs.Calls.{readyIn, withoutFailure, planFor, courseFor, begunTurn, begunInbox, begunOutbox}

@@ -1,5 +1,5 @@
 -- No call and no answer brings a count above its array: what is appended is appended where there is room. Every other step leaves the lists, or empties them.
-use Prim.Native.Nat.{ℕ, zero, suc, _≤_}
+use Prim.Native.Nat.{ℕ, zero, suc}
 use native.Mathlib.Omega.{arith}
 use mathlib.Core.Bool.{Bool, true, false}
 use mathlib.Core.List.{List}
@@ -70,7 +70,7 @@ use Rattle.session.specs.declared.Fill.the-variants as w
 use Rattle.session.specs.declared.Session.{Session}
 use Rattle.session.specs.declared.Planned.{Planned}
 use Rattle.closing_plan.specs.Closing.{isDone, isHeld, UNDOS}
-use Rattle.closing_plan.specs.Plan.{cmdIn, resetIn, onHold, givenPlan, outboxPlan, inboxPlan, faPlan, auxPlan, icmPlan, lentPlan, failedPlan, stoppedPlan, unmapFaPlan, unmapAuxPlan, unmapPlan, closeHcaPlan, undoSend, undoPlan, stopPlan, quiescePlan, closesOf, wasReset, closePlanAt, closePlan}
+use Rattle.closing_plan.specs.Plan.{cmdIn, resetIn, onHold, givenPlan, outboxPlan, inboxPlan, faPlan, auxPlan, icmPlan, lentPlan, failedPlan, stoppedPlan, unmapFaPlan, unmapAuxPlan, unmapPlan, closeHcaPlan, undoSend, undoPlan, stopPlan, quiescePlan, closesOf, closePlanAt, closePlan}
 use Rattle.client_plan.specs.Plan as cl
 use Rattle.client_plan.specs.Plan.{commandPlan, lendPlan, lendEnded, clientPlanAt, clientPlan}
 use Rattle.opening_plan.specs.Opening.{portsOf}
@@ -79,7 +79,7 @@ use Rattle.opening_plan.specs.Plan as n
 use Rattle.opening_plan.specs.Plan.{attrIn, claimIn, barIn, failPlan, failByPlan, funcPlan, makePlan, nextRange, mappedPlan, mapPlan, areaPlan, layoutPlan, portPlan, fwReplied, capReplied, portReplied, funcReplied, bootPlanAt, bootPlan, preparePlanAt, preparePlan, listsAt, listsBoot, lists}
 use Rattle.fw_plan.specs.Calls.{planAt, filled, withWork, stepTurn, stepOf, answerOf, answerable, isLent, refusedOf}
 use Rattle.fw_plan.specs.declared.Turn.{Turn}
-use Rattle.calls_plan.specs.Calls.{withoutFailure, planFor, begunTurn, readyIn, unless, barred, admitted, callable, lentFor, callOf}
+use Rattle.calls_plan.specs.Calls.{withoutFailure, planFor, begunTurn, readyIn, unless, barred, callable, lentFor, callOf}
 use Rattle.calls_plan.specs.Counts.{Counted}
 use Rattle.calls_plan.specs.declared.Call.{Call}
 use Rattle.calls_plan.specs.declared.Call.the-variants as kn

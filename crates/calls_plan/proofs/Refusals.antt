@@ -19,7 +19,7 @@ use Rattle.client_plan.specs.declared.Request.{Request}
 use Rattle.fw_plan.specs.Calls.{refusedOf, inTime}
 use Rattle.fw_plan.specs.declared.Turn.{Turn}
 use Rattle.fw_plan.proofs.Refusals.{no-time, no-room, not-refused}
-use Rattle.calls_plan.specs.Calls.{callable, lentFor, barred, byOpcode, byPages, byList, unless, admitted, admittedIn, admittedOut, begunTurn, begunInbox, begunOutbox, callOf, callIn, callOut}
+use Rattle.calls_plan.specs.Calls.{callable, lentFor, barred, byOpcode, byPages, unless, admitted, admittedIn, admittedOut, begunTurn, begunInbox, begunOutbox, callOf, callIn, callOut}
 use Rattle.calls_plan.specs.declared.Call.{Call}
 use Rattle.calls_plan.specs.declared.Call.the-variants as k
 

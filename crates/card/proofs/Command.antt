@@ -18,7 +18,7 @@ use Rattle.command.specs.declared.Catas.the-variants.{Known, Unknown}
 use Rattle.command.specs.declared.CmdResult.{CmdResult}
 use Rattle.command.specs.declared.CmdResult.the-variants as r
 use Rattle.command.specs.declared.CmdEnd.{CmdEnd}
-use Rattle.card.specs.Card.{Held, Mail, Command, Card, effect, result, same, ends, goOf, tbitOf, statusOf, written, begin, put, store, take, fenced, Shows, Takes, Host, World, WorldStep, mailAt, IsMap, kind, StandsAt, Posts}
+use Rattle.card.specs.Card.{Held, Mail, Command, Card, effect, result, same, ends, goOf, tbitOf, statusOf, written, begin, put, store, take, Shows, Takes, Host, World, WorldStep, mailAt, IsMap, kind, StandsAt, Posts}
 use Rattle.card.specs.Safe.{Safe}
 use Rattle.card.proofs.Sequence.{safe-pick}
 use Rattle.card.specs.Known.{During, Fits, Going, Loose, Or, Out, Over, Quiet, Stable, Within, postedAs}

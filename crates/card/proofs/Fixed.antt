@@ -2,9 +2,9 @@
 use mathlib.Core.List.{List}
 use Prim.Native.Nat.{ℕ}
 use mathlib.Core.Option.{Option, some}
-use mathlib.Core.Path.{_≡_, refl, _∙_, ap}
+use mathlib.Core.Path.{_≡_, _∙_, ap}
 use Rattle.pci.specs.Script.{Script, ret, ask, Ask, Reply, Spot, good, failed, configRead16, configRead32, configWrite16, configWrite32, read, write, attributes, resource, stall, allocate, mapped, unmap, free, fence}
-use Rattle.card.specs.Card.{Host, HostStep, World, WorldStep, orElse, second}
+use Rattle.card.specs.Card.{Host, HostStep, World, orElse, second}
 use Rattle.card.specs.Safe.{Safe}
 
 module _ (a b : Spot) where

@@ -1,7 +1,7 @@
 -- What the card may use, from what is known of what it holds.
 use Prim.Native.Nat.{ℕ}
 use mathlib.Core.Logic.{_⊎_, inl, inr, ⊎-elim}
-use mathlib.Core.Option.{some, Option·none-ne-some}
+use mathlib.Core.Option.{Option·none-ne-some}
 use mathlib.Core.Path.{_≡_, sym, _∙_, ap, subst}
 use Rattle.card.specs.Card.{Held, Command, Card, Kind, MapFa, UnmapFa, MapAux, UnmapAux, MapIcm, UnmapIcm, CloseHca, Other, kind, does, effect, Named, Holds, IsMap, MayUse}
 use Rattle.card.specs.Known.{Empty, Nothing, Quiet}

@@ -26,7 +26,7 @@ use Rattle.buffer.specs.declared.Made.{Made}
 use Rattle.buffer.specs.declared.Made.the-variants as m
 use Rattle.session.specs.Failures.{failureOf, faultOf}
 use Rattle.session.specs.Session.{wired, after, withInOf, bytesIn}
-use Rattle.session.specs.Course.{Course, Here, sends, Rest, atRest}
+use Rattle.session.specs.Course.{Course, Here, Rest, atRest}
 use Rattle.session.specs.declared.Hold.the-variants as o
 use Rattle.session.specs.declared.Wire.{Wire}
 use Rattle.session.specs.declared.Books.{Books}

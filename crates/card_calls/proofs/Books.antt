@@ -5,9 +5,8 @@ use native.Mathlib.Nat.{mod-eq-of-lt}
 use mathlib.Core.Bool.{Bool, true, false}
 use mathlib.Core.List.{List, [], _∷_, _++_, append-assoc}
 use mathlib.Core.Logic.{_⊎_, inl, inr, ⊎-elim, _↔_}
-use mathlib.Core.Option.{none}
 use mathlib.Core.Path.{_≡_, refl, sym, _∙_, ap, ap₂, subst}
-use lib.Dec.{eqb, ltb}
+use lib.Dec.{eqb}
 use borrow.Author.Tests.{lt-ltb, eqb-true, eqb-false}
 use lib.ListN.{length, getD, set, length-set}
 use lib.Seq.{getD-set-same, getD-set-other}
@@ -16,7 +15,7 @@ use Rattle.dma.specs.Pages.{table, blocksIn}
 use Rattle.dma.specs.declared.Buffer.{Buffer}
 use Rattle.dma.specs.declared.Cutter.{Cutter}
 use Rattle.dma.specs.PageList.{mailboxOf, firstBlocks, behind}
-use Rattle.session.specs.Session.{books, listing, icmAt, bufferAt, bufferOf, noIcm, noBuffer, lentTo}
+use Rattle.session.specs.Session.{listing, icmAt, bufferAt, bufferOf, noIcm, noBuffer, lentTo}
 use Rattle.session.specs.declared.Hold.{Hold as Slot}
 use Rattle.session.specs.declared.Hold.the-variants as o
 use Rattle.session.specs.declared.Icm.{Icm}

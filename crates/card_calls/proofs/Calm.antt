@@ -1,21 +1,21 @@
 -- While a client's call runs, no question changes the card's map: no reset is asked for, and every command that is posted is of no effect.
-use Prim.Native.Nat.{ℕ, zero, suc, _+_, _*_, _%_, _^_, _<_, _≤_}
+use Prim.Native.Nat.{ℕ, zero, suc, _+_, _*_, _%_, _<_, _≤_}
 use native.Mathlib.Omega.{arith}
 use mathlib.Core.Bool.{Bool, true, false, not}
 use mathlib.Core.List.{List, [], _∷_}
 use mathlib.Core.Logic.{_⊎_, ⊎-elim}
-use mathlib.Core.Option.{Option, some, Option·some-injective}
+use mathlib.Core.Option.{Option·some-injective}
 use mathlib.Core.Path.{_≡_, refl, sym, _∙_, ap, subst}
 use borrow.Author.Tests.{eqb-true}
 use lib.Dec.{eqb, leb}
 use lib.ListN.{length}
 use Rattle.fields.specs.Outcome.{Outcome, value, refused, pick}
 use Rattle.dma.specs.Buffers.{pagesFor, acceptAt}
-use Rattle.hcr.specs.Words.{digit, goWord, register, pendingIn, statusIn, isReserved}
+use Rattle.hcr.specs.Words.{goWord, pendingIn, statusIn, isReserved}
 use Rattle.hcr.specs.declared.Post.{Post}
 use Rattle.pci.specs.Script.{Script, ret, ask, Ask, Reply, Bus, Spot, good, failed, configRead16, configRead32, configWrite16, configWrite32, read, write, attributes, resource, stall, allocate, mapped, unmap, free, fence}
 use Rattle.pci.specs.declared.Refusal.the-variants as x
-use Rattle.command.specs.Script.{STALLS, ending, onRead, onWrite, timedOut, words, low, immediate, judged, verdict, poll, writeAll, start, fenced, command}
+use Rattle.command.specs.Script.{STALLS, onRead, onWrite, timedOut, words, low, immediate, judged, verdict, poll, writeAll, start, fenced, command}
 use Rattle.command.specs.declared.Catas.{Catas}
 use Rattle.command.specs.declared.Catas.the-variants.{Known, Unknown}
 use Rattle.command.specs.declared.CmdEnd.{CmdEnd}
@@ -25,9 +25,9 @@ use Rattle.buffer.specs.declared.Fault.the-variants as e
 use Rattle.buffer.specs.declared.Made.{Made}
 use Rattle.buffer.specs.declared.Made.the-variants as m
 use Rattle.session.specs.Session.{wired, after, broken, catasFor}
-use Rattle.session.specs.Failures.{faultOf, brokenBy}
+use Rattle.session.specs.Failures.{brokenBy}
 use Rattle.session.specs.Course as cs
-use Rattle.session.specs.Course.{Course, Here, here, Lent, Box, neither, run, touched, lent, sends, Rest}
+use Rattle.session.specs.Course.{Course, Here, here, Lent, Box, neither, run, touched, lent, sends}
 use Rattle.session.specs.declared.Books.{Books}
 use Rattle.session.specs.declared.Info.{Info}
 use Rattle.session.specs.declared.Gave.the-variants as v
@@ -36,7 +36,7 @@ use Rattle.session.specs.declared.Closing.{Closing}
 use Rattle.closing_plan.specs.Closing.{isDone, undoPost, popped, UNDOS}
 use Rattle.client_plan.specs.Client.{postOf, readied, gaveBy, gives, commanding, lentBy, lending, undoing, undoingTo}
 use Rattle.client_plan.specs.declared.Request.{Request}
-use Rattle.card.specs.Card.{Held, Command, Card, Mail, Other, kind, effect, Settles, goOf, written, begin, store, take, afterReset, Takes, fenced as fencing, Host, World, WorldStep}
+use Rattle.card.specs.Card.{Held, Command, Card, Other, kind, effect, Settles, goOf, written, begin, store, take, afterReset, Takes, World, WorldStep}
 use Rattle.card.specs.Known.{Within}
 use Rattle.card.proofs.Command.{within-stable}
 use Rattle.card.proofs.View.{other-effect}

@@ -1,15 +1,15 @@
 -- The courses of a client's calls keep to the card rules, and leave an open session as it was: a command has no effect on what the card holds, a lending adds a buffer to
 -- the books.
-use Prim.Native.Nat.{ℕ, zero, suc, _^_, _<_, _≤_}
+use Prim.Native.Nat.{ℕ, zero, suc, _^_, _<_}
 use native.Mathlib.Omega.{arith}
 use mathlib.Core.Bool.{Bool, true, false, not, false≢true}
 use mathlib.Core.List.{List, _∷_}
-use mathlib.Core.Logic.{_⊎_, inl, inr, ⊎-elim}
+use mathlib.Core.Logic.{inl, inr}
 use mathlib.Core.Option.{Option, some, none}
 use mathlib.Core.Path.{_≡_, refl, sym, _∙_, ap, subst}
 use lib.Dec.{leb}
 use lib.ListN.{length, getD}
-use Rattle.fields.specs.Outcome.{pick, value}
+use Rattle.fields.specs.Outcome.{pick}
 use Rattle.dma.specs.declared.Buffer.{Buffer}
 use Rattle.hcr.specs.Words.{isReserved}
 use Rattle.hcr.specs.declared.Post.{Post}
@@ -20,10 +20,9 @@ use Rattle.command.specs.declared.CmdResult.the-variants as r
 use Rattle.buffer.specs.Buffer.{making}
 use Rattle.buffer.specs.declared.Made.{Made}
 use Rattle.buffer.specs.declared.Made.the-variants as m
-use Rattle.session.specs.Session.{wired, after, broken, endSeen, deviceOf, lentTo}
+use Rattle.session.specs.Session.{wired, after, broken, endSeen, deviceOf}
 use Rattle.session.specs.Failures.{faultOf, brokenBy, needsReset}
-use Rattle.session.specs.Course.{Course, ret, Here, here, left, blank, sends, Rest, atRest}
-use Rattle.session.specs.declared.Wire.{Wire}
+use Rattle.session.specs.Course.{Course, Here, here, blank, sends, Rest, atRest}
 use Rattle.session.specs.declared.Books.{Books}
 use Rattle.session.specs.declared.Held.{Held as Boxen}
 use Rattle.session.specs.declared.Info.{Info}
@@ -35,23 +34,22 @@ use Rattle.session.specs.declared.Stage.the-variants as g
 use Rattle.session.specs.declared.Failure.{Failure}
 use Rattle.session.specs.declared.Closing.{Closing}
 use Rattle.closing_plan.specs.Closing.{isDone, lendsFrom, undoPost, popped, UNDOS}
-use Rattle.client_plan.specs.Client.{takesInput, givesOutput, inAddress, outAddress, postOf, inputIn, outputIn, readied, gaveBy, gives, commanding, lentBy, lending, undoing, undoingTo}
+use Rattle.client_plan.specs.Client.{takesInput, givesOutput, inAddress, outAddress, postOf, readied, gaveBy, gives, commanding, lentBy, lending, undoing, undoingTo}
 use Rattle.client_plan.specs.declared.Request.{Request}
 use Rattle.calls_plan.proofs.Begins.{length-input}
 use Rattle.card.specs.Card.{Held, Command, Card, Settles, Other, kind, IsMap, Meets, Hold, Host, World, MayUse, mailAt}
-use Rattle.card.specs.Safe.{Safe}
 use Rattle.card.proofs.Fixed.{safe-fixed}
 use Rattle.card.specs.Owns.{Owns, InBooks, spotOf}
-use Rattle.card.specs.Known.{Fits, Out, Quiet, Within, postedAs}
+use Rattle.card.specs.Known.{Fits, Out, Within, postedAs}
 use Rattle.card.proofs.Command.{out-within, quiet-stable, within-more, within-stable}
 use Rattle.card.proofs.Owns.{owns-perm}
 use Rattle.card.proofs.Making.{MadePost, safe-making}
 use Rattle.card.proofs.View.{other-effect}
-use Rattle.card_calls.specs.SafeCourse.{Typed, Sized, SafeCourse}
-use Rattle.card_calls.specs.Holding.{Boxes, Calm, Mine, Entries, Uses, Lies, Opened, Idle, lents}
+use Rattle.card_calls.specs.SafeCourse.{Sized, SafeCourse}
+use Rattle.card_calls.specs.Holding.{Boxes, Calm, Mine, Uses, Lies, Idle, lents}
 use Rattle.card_calls.proofs.Courses.{Fair, zeros, safe-task, safe-sends, course-pick}
 use Rattle.card_calls.proofs.Closing.{fits-undo, popped-fair, unreserved-small, unreserved-other}
-use Rattle.card_calls.proofs.Commands.{own-calm, own-mine}
+use Rattle.card_calls.proofs.Commands.{own-calm}
 use Rattle.card_calls.proofs.Books.{uses-bound, lentIn, lends-enters, lent-perm, lent-entries, lent-old, lent-new, all-old}
 use Rattle.card_calls.proofs.Idle.{moved-boxes, wired-entries, wired-card, wired-bound, idle-wired}
 

@@ -3,7 +3,7 @@ use Prim.Native.Nat.{ℕ, _^_, _<_}
 use native.Mathlib.Omega.{arith}
 use mathlib.Core.Bool.{Bool, true, false, false≢true}
 use mathlib.Core.List.{List, [], _++_}
-use mathlib.Core.Logic.{_⊎_, inl, inr, ⊎-elim}
+use mathlib.Core.Logic.{_⊎_, inl, ⊎-elim}
 use mathlib.Core.Option.{Option, some}
 use mathlib.Core.Path.{_≡_, refl, sym, _∙_, ap, subst}
 use Rattle.fields.specs.Outcome.{Outcome, value, refused, pick}
@@ -23,7 +23,7 @@ use Rattle.session.specs.declared.Failure.{Failure}
 use Rattle.session.specs.declared.Failure.the-variants as f
 use Rattle.session.specs.declared.Closing.{Closing}
 use Rattle.session.specs.declared.Closing.the-variants as c
-use Rattle.closing_plan.specs.Closing.{isDone, inHold, boxes, lendsFrom, emptied, stopping}
+use Rattle.closing_plan.specs.Closing.{isDone, inHold, boxes, lendsFrom, emptied}
 use Rattle.opening_plan.specs.Values.{refusalOf}
 use Rattle.opening_plan.specs.Opening.{fails, onValue}
 use Rattle.pci.specs.Script.{Spot}

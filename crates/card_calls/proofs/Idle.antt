@@ -1,19 +1,17 @@
 -- An open session between two calls: how it comes to be so, and what leaves it so.
 use Prim.Native.Nat.{ℕ}
-use mathlib.Core.Bool.{Bool, true, false, false≢true}
+use mathlib.Core.Bool.{true, false, false≢true}
 use mathlib.Core.Option.{Option}
-use mathlib.Core.Path.{_≡_, refl, sym, _∙_, ap, subst}
+use mathlib.Core.Path.{_≡_, refl, sym, _∙_, ap}
 use Rattle.session.specs.Session.{wired}
 use Rattle.session.specs.declared.Wire.{Wire}
 use Rattle.session.specs.declared.Books.{Books}
 use Rattle.session.specs.declared.Info.{Info}
-use Rattle.closing_plan.specs.Closing.{lendsFrom}
-use Rattle.card.specs.Card.{Held, Command, Card, Hold, Host, World}
-use Rattle.card.specs.Owns.{Owns}
+use Rattle.card.specs.Card.{Held, Card, Hold, Host, World}
 use Rattle.card.specs.Known.{Within}
 use Rattle.card.proofs.Command.{quiet-within, within-more}
 use Rattle.card_calls.specs.Ranges.{AsLaid}
-use Rattle.card_calls.specs.Holding.{Boxes, Calm, Mine, Entries, Knows, Uses, Lies, Opened, Idle, Ready}
+use Rattle.card_calls.specs.Holding.{Boxes, Calm, Mine, Entries, Knows, Uses, Lies, Idle, Ready}
 use Rattle.card_calls.proofs.Books.{knows-uses, knows-bound}
 
 -- the mailboxes are where they were

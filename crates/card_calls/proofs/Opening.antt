@@ -53,7 +53,7 @@ use Rattle.uar.specs.declared.Found.the-variants as u
 use Rattle.work.specs.Work.{looking}
 use Rattle.session.specs.Failures.{failureOf, faultOf, immediateOf, needsReset}
 use Rattle.session.specs.Session.{noBooks, noInfo, wired, after, endSeen, immOf, withInOf, withOutOf}
-use Rattle.session.specs.Course.{Here, inbox, outbox, zeroed, run, Rest, atRest}
+use Rattle.session.specs.Course.{Here, inbox, outbox, zeroed, Rest, atRest}
 use Rattle.session.specs.declared.Hold.the-variants as o
 use Rattle.session.specs.declared.Wire.{Wire}
 use Rattle.session.specs.declared.Books.{Books}
@@ -65,7 +65,7 @@ use Rattle.session.specs.declared.Failure.{Failure}
 use Rattle.session.specs.declared.Failure.the-variants as f
 use Rattle.session.specs.declared.Closing.{Closing}
 use Rattle.session.specs.declared.Closing.the-variants as c
-use Rattle.closing_plan.specs.Closing.{lendsFrom, emptied, parted, restored}
+use Rattle.closing_plan.specs.Closing.{lendsFrom, emptied, parted}
 use Rattle.opening_plan.specs.Values.{fwFailureOf, layoutIn, rangeAt, noRange, withToggle, withCatas, withOriginal, withInbox, withOutbox, withFa, withAux, nowStarted, withUar, withRevision, withCap, withFunc, withPort}
 use Rattle.opening_plan.specs.Opening.{failsBy, onValue, holds, onMade, opened, queryAdapter, queryFunc, initHca, areaFor, mapIcm, setIcmSize, layingOut, queryPorts, portsOf, queryDevCap, modStat, runFw, fwReply, queryFw, look, giveInbox, makeOutbox, makeInbox, onFound, findUar, firstReset, onClaimed, claim, onEnabled, enable, opening}
 use Rattle.card.specs.Card.{Held, Card, Hold, Host, orElse, second, MayUse, World, mailAt}

@@ -1,17 +1,12 @@
 -- The course of a quiesce keeps to the card rules: it frees and unmaps nothing, and what the card may use lies in the buffers of the books as before.
 use Prim.Native.Nat.{ℕ, zero, suc, _%_, _^_, _<_}
 use native.Mathlib.Omega.{arith}
-use mathlib.Core.Bool.{Bool, true, false, false≢true}
-use mathlib.Core.List.{List}
+use mathlib.Core.Bool.{true, false≢true}
 use mathlib.Core.Logic.{_⊎_, ⊎-elim}
-use mathlib.Core.Option.{Option}
-use mathlib.Core.Path.{_≡_, refl, sym, _∙_, ap, subst}
+use mathlib.Core.Path.{_≡_, refl, sym, _∙_, subst}
 use lib.Dec.{eqb}
-use Rattle.fields.specs.Outcome.{pick}
 use Rattle.hcr.specs.Words.{isReserved}
 use Rattle.hcr.specs.declared.Post.{Post}
-use Rattle.command.specs.declared.CmdEnd.{CmdEnd}
-use Rattle.command.specs.declared.CmdResult.{CmdResult}
 use Rattle.tasks.specs.Parting.{quieting}
 use Rattle.session.specs.Session.{wired, after, broken, silent, icmAt, immOf}
 use Rattle.session.specs.Course.{Course, ret, Here, here, left, sends, Rest, atRest}
@@ -22,9 +17,9 @@ use Rattle.session.specs.declared.Gave.the-variants as gv
 use Rattle.session.specs.declared.Stage.the-variants as g
 use Rattle.session.specs.declared.Failure.{Failure}
 use Rattle.session.specs.declared.Closing.the-variants as c
-use Rattle.closing_plan.specs.Closing.{isDone, isHeld, lendsFrom, undoPost, popped, UNDOS, failing, quieted, quiescing, stopped, onward, unmapFa, unmapAux, unmapping, closeHca, undoing}
-use Rattle.card.specs.Card.{Held, Command, Card, kind, does, effect, IsMap, Named, Hold, Host, World, mailAt, store}
-use Rattle.card.specs.Known.{Fits, Out, Stable, Within, postedAs}
+use Rattle.closing_plan.specs.Closing.{isDone, isHeld, undoPost, popped, UNDOS, failing, quieted, quiescing, stopped, onward, unmapFa, unmapAux, unmapping, closeHca, undoing}
+use Rattle.card.specs.Card.{Held, Command, Card, kind, effect, IsMap, Host, World, mailAt}
+use Rattle.card.specs.Known.{Fits, Within, postedAs}
 use Rattle.card.proofs.Command.{out-within, within-stable}
 use Rattle.card.proofs.Still.{safe-quieting}
 use Rattle.card.proofs.View.{held-before}

@@ -11,7 +11,7 @@ use borrow.Author.Tests.{eq-eqb}
 use Rattle.fields.specs.Outcome.{pick}
 use Rattle.hcr.specs.Words.{digit, pendingIn, statusIn, goWord, waitedOf}
 use Rattle.hcr.specs.declared.Post.{Post}
-use Rattle.pci.specs.Script.{good, read}
+use Rattle.pci.specs.Script.{good}
 use Rattle.pci.specs.declared.Answer.the-variants as an
 use Rattle.command.specs.Script.{STALLS, low, immediate, judged, verdict, poll, writeAll, start, fenced as fencing, command}
 use Rattle.command.specs.declared.Catas.{Catas}

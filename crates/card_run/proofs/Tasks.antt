@@ -6,7 +6,7 @@ use mathlib.Core.List.{List, [], _∷_}
 use mathlib.Core.Logic.{_⊎_, inl, inr, ⊎-elim}
 use mathlib.Core.Option.{some, none, Option·some-injective, Option·none-ne-some}
 use mathlib.Core.Path.{_≡_, refl, sym, _∙_, ap, subst}
-use lib.Dec.{eqb, leb}
+use lib.Dec.{eqb}
 use borrow.Author.Tests.{eq-eqb, le-leb, eqb-true, eqb-false}
 use lib.ListN.{set, replicate}
 use Rattle.fields.specs.Outcome.{Outcome, value, refused, pick}
@@ -15,7 +15,7 @@ use Rattle.bars.specs.declared.Pick.{Pick}
 use Rattle.bars.specs.declared.Size.the-variants as z
 use Rattle.dma.specs.Buffers.{pagesFor, isPage, endsWithin}
 use Rattle.hcr.specs.Words.{firstToggle}
-use Rattle.pci.specs.Script.{Script, ret, good, failed, Spot, read, mapped}
+use Rattle.pci.specs.Script.{Script, ret, good, failed, Spot, mapped}
 use Rattle.pci.specs.declared.Answer.the-variants as an
 use Rattle.reset.specs.Reset.{dwordAt, restore, vendor, written, semaphore, save, reset}
 use Rattle.reset.specs.declared.ResetEnd.{ResetEnd}
@@ -33,7 +33,7 @@ use Rattle.uar.specs.Uar as u
 use Rattle.uar.specs.declared.Found.{Found}
 use Rattle.uar.specs.declared.Found.the-variants as fo
 use Rattle.work.specs.Work.{looking}
-use Rattle.card.specs.Card.{same, afterReset, Hold, Host, Meets, On, InUse, put, mapAt, mapIn, handOut, World}
+use Rattle.card.specs.Card.{same, afterReset, Hold, Host, Meets, On, InUse, mapAt, mapIn, handOut, World}
 use Rattle.card.proofs.Owns.{put-same, put-other}
 use Rattle.card_run.specs.Can.{Can}
 use Rattle.card_run.proofs.Steps.{says-read, can-true}

@@ -1,7 +1,6 @@
 -- Each plan of a client's call begins what its course says.
 use Prim.Native.Nat.{ℕ, zero, suc, _*_, _/_, _-_}
-use mathlib.Core.Bool.{Bool, true, false}
-use mathlib.Core.List.{List}
+use mathlib.Core.Bool.{Bool}
 use mathlib.Core.Path.{_≡_, refl, ap, _∙_}
 use native.Mathlib.Omega.{arith}
 use lib.Dec.{leb}
@@ -15,7 +14,7 @@ use Rattle.command.specs.Machine.{cmdScript, first}
 use Rattle.command.specs.Script.{command}
 use Rattle.command.specs.declared.CmdEnd.{CmdEnd}
 use Rattle.command.specs.declared.CmdResult.{CmdResult}
-use Rattle.buffer.specs.Buffer.{byOutcome, making, allocating}
+use Rattle.buffer.specs.Buffer.{byOutcome, allocating}
 use Rattle.buffer.specs.declared.Fault.the-variants as q
 use Rattle.buffer.specs.declared.Made.{Made}
 use Rattle.buffer.specs.declared.Made.the-variants as m
@@ -24,10 +23,9 @@ use Rattle.work.specs.declared.Task.the-variants as t
 use Rattle.work.specs.declared.End.{End}
 use Rattle.work.specs.declared.End.the-variants as e
 use Rattle.session.specs.Session.{starts, sendsOf, tookOf, breaksOf, planned, catasFor, wired, broken}
-use Rattle.session.specs.Failures.{madeIn, brokenBy}
+use Rattle.session.specs.Failures.{madeIn}
 use Rattle.session.specs.Course.{Course, Here, here, neither, run, sends, Rest}
 use Rattle.session.proofs.Courses.{run-turned, run-same}
-use Rattle.session.specs.declared.Top.{Top}
 use Rattle.session.specs.declared.Books.{Books}
 use Rattle.session.specs.declared.Gave.{Gave}
 use Rattle.session.specs.declared.Gave.the-variants as v
@@ -41,11 +39,10 @@ use Rattle.session.specs.declared.Fill.the-variants as w
 use Rattle.session.specs.declared.Session.{Session}
 use Rattle.session.specs.declared.Planned.{Planned}
 use Rattle.closing_plan.specs.Closing.{isDone, undoPost, popped, UNDOS}
-use Rattle.closing_plan.specs.Plan.{cmdIn, tookBooks, restsOf, planHere}
+use Rattle.closing_plan.specs.Plan.{cmdIn, tookBooks}
 use Rattle.closing_plan.proofs.Lands as z
-use Rattle.client_plan.specs.Client.{gaveBy, gives, lentBy, lending, undoing, undoingTo, postOf}
-use Rattle.client_plan.specs.Plan.{restPlan, lendPlan, undoSend, undoPlan, undoToPlan, lendEnded, clientPlan, afterClient, clientCourse}
-use Rattle.client_plan.specs.declared.Request.{Request}
+use Rattle.client_plan.specs.Client.{gives, lentBy, lending, undoing, undoingTo}
+use Rattle.client_plan.specs.Plan.{restPlan, lendPlan, undoPlan, undoToPlan, lendEnded, clientPlan, afterClient, clientCourse}
 
 -- what the stages of an opening mean, and what is written to the mailboxes, is left open
 module _ (P : Prepare → Session → Here → Course Rest) (B : Boot → Session → Here → Course Rest) (F : Fill → Session → Here → Course Rest) where

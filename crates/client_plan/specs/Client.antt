@@ -1,6 +1,6 @@
 -- A client's calls on an open session, as courses. Document 01: "Client commands go through `Hca::cmd`", in the forms `imm`, `with_in`, `with_out`, `in_imm`, `in_out`
 -- of the command register; `lend`; `undo_to`.
-use Prim.Native.Nat.{ℕ, zero, suc, _-_, _^_}
+use Prim.Native.Nat.{ℕ, zero, suc}
 use mathlib.Core.Bool.{Bool, true, false}
 use mathlib.Core.List.{List, [], _∷_}
 use lib.Dec.{leb, ltb}

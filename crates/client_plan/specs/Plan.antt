@@ -1,7 +1,5 @@
 -- The plans of a client's calls: how each begins, and what follows when a task has ended, as functions on the session.
-use Prim.Native.Nat.{ℕ, zero, suc, _*_, _-_, _^_}
-use mathlib.Core.Bool.{Bool}
-use mathlib.Core.List.{List}
+use Prim.Native.Nat.{ℕ, zero, suc, _*_}
 use lib.Dec.{leb}
 use Rattle.fields.specs.Outcome.{pick}
 use Rattle.dma.specs.Buffers.{pagesFor}

@@ -20,7 +20,7 @@ use Rattle.session.specs.declared.Fill.the-variants as w
 use Rattle.session.specs.declared.Session.{Session}
 use Rattle.session.specs.declared.Planned.{Planned}
 use Rattle.closing_plan.specs.Closing.{isDone, isHeld, UNDOS}
-use Rattle.closing_plan.specs.Plan.{cmdIn, resetIn, onHold, closesOf, givenPlan, outboxPlan, inboxPlan, faPlan, auxPlan, icmPlan, lentPlan, givePlan, failedPlan, quiescePlan, stoppedPlan, unmapFaPlan, unmapAuxPlan, unmapPlan, closeHcaPlan, undoSend, undoPlan, stopPlan, closePlan}
+use Rattle.closing_plan.specs.Plan.{cmdIn, resetIn, onHold, closesOf, outboxPlan, inboxPlan, faPlan, auxPlan, icmPlan, lentPlan, givePlan, failedPlan, quiescePlan, stoppedPlan, unmapFaPlan, unmapAuxPlan, unmapPlan, closeHcaPlan, undoSend, undoPlan, stopPlan, closePlan}
 
 pick-fill : (b : Bool) (x y : Planned) → x .fill ≡ w.Nothing → y .fill ≡ w.Nothing → pick b x y .fill ≡ w.Nothing
 pick-fill true x y d e = d

@@ -14,20 +14,19 @@ use Rattle.hcr.specs.Words.{isReserved}
 use Rattle.hcr.specs.declared.Post.{Post}
 use Rattle.command.specs.Machine.{cmdScript, first}
 use Rattle.command.specs.Script.{command}
-use Rattle.reset.specs.Reset.{reset, isGood}
+use Rattle.reset.specs.Reset.{isGood}
 use Rattle.reset.specs.Steps.{started, resetScript}
 use Rattle.buffer.specs.Steps.{startFree, freeScript}
-use Rattle.tasks.specs.Parting.{releasing, restoring, quieting, partScript}
+use Rattle.tasks.specs.Parting.{releasing, restoring, quieting}
 use Rattle.work.specs.declared.Task.the-variants as t
 use Rattle.work.specs.declared.End.{End}
 use Rattle.work.specs.declared.End.the-variants as e
 use Rattle.command.specs.declared.CmdEnd.{CmdEnd}
 use Rattle.session.specs.Session.{bufferAt, icmAt, bufferOf, immOf, catasFor, starts, tookOf, breaksOf, silencedOf, sendsOf, planned}
-use Rattle.session.specs.Course.{Course, ret, Here, here, left, Box, neither, run, sends, Rest, restOf}
+use Rattle.session.specs.Course.{Course, ret, Here, left, neither, sends, Rest, restOf}
 use Rattle.session.proofs.Courses.{run-turned, run-same}
 use Rattle.session.specs.declared.Hold.{Hold}
 use Rattle.session.specs.declared.Hold.the-variants as o
-use Rattle.session.specs.declared.Top.{Top}
 use Rattle.session.specs.declared.Books.{Books}
 use Rattle.session.specs.declared.Stage.{Stage}
 use Rattle.session.specs.declared.Stage.the-variants as g
@@ -42,9 +41,9 @@ use Rattle.session.specs.declared.Fill.{Fill}
 use Rattle.session.specs.declared.Fill.the-variants as w
 use Rattle.session.specs.declared.Session.{Session}
 use Rattle.session.specs.declared.Planned.{Planned}
-use Rattle.closing_plan.specs.Closing.{isDone, isHeld, emptied, undoPost, popped, UNDOS, lendsFrom, rangesFrom, areas, inHold, boxes}
+use Rattle.closing_plan.specs.Closing.{isDone, isHeld, emptied, undoPost, UNDOS, lendsFrom, rangesFrom, areas, inHold, boxes}
 use Rattle.closing_plan.specs.Closing as q
-use Rattle.closing_plan.specs.Plan.{cmdIn, resetIn, closesOf, resetsOf, restorePlan, releasePlan, freePlan, onHold, givenPlan, outboxPlan, inboxPlan, faPlan, auxPlan, icmPlan, lentPlan, givePlan, resetPlan, quietPlan, failedPlan, quiescePlan, stoppedPlan, sendPlan, unmapFaPlan, unmapAuxPlan, unmapPlan, closeHcaPlan, undoSend, undoPlan, stopPlan, onwardPlan, wasReset, closePlan, afterClose, closeCourse, then, gone, planHere, tookBooks}
+use Rattle.closing_plan.specs.Plan.{cmdIn, resetIn, closesOf, restorePlan, releasePlan, freePlan, onHold, givenPlan, outboxPlan, inboxPlan, faPlan, auxPlan, icmPlan, lentPlan, givePlan, resetPlan, quietPlan, failedPlan, quiescePlan, stoppedPlan, unmapFaPlan, unmapAuxPlan, unmapPlan, closeHcaPlan, undoPlan, stopPlan, closePlan, afterClose, closeCourse, then, gone, planHere}
 
 -- what the stages of an opening and of a client's call mean is left open
 module _ (P : Prepare → Session → Here → Course Rest) (B : Boot → Session → Here → Course Rest) (U : Client → Session → Here → Course Rest) where

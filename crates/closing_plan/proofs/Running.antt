@@ -1,8 +1,7 @@
 -- WHERE THE RULE FIRES that resets because a command may still run. After a good command none does, so it can fire only in a closing that has sent nothing: one of
 -- a session that is not broken, has no undo record, was not started and holds no range and no area.
-use mathlib.Core.Bool.{Bool, true, false, not}
+use mathlib.Core.Bool.{true, false}
 use mathlib.Core.Path.{_≡_, refl}
-use Rattle.fields.specs.Outcome.{pick}
 use Rattle.command.specs.declared.CmdEnd.{CmdEnd}
 use Rattle.command.specs.declared.CmdResult.{CmdResult}
 use Rattle.command.specs.declared.CmdResult.the-variants as r

@@ -1,6 +1,5 @@
 -- One step of a plan that counts down.
 use Prim.Native.Nat.{ℕ, zero, suc, _-_, _%_, _^_}
-use mathlib.Core.Bool.{Bool}
 use mathlib.Core.Path.{_≡_, refl, ap}
 use native.Mathlib.Omega.{arith}
 use Rattle.fields.specs.Outcome.{pick}

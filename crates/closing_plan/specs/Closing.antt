@@ -5,7 +5,6 @@ use Prim.Native.Nat.{ℕ, zero, suc, _-_, _%_, _^_}
 use mathlib.Core.Bool.{Bool, true, false}
 use mathlib.Core.List.{List, [], _∷_, _++_}
 use lib.Dec.{eqb}
-use lib.ListN.{replicate}
 use Rattle.fields.specs.Outcome.{pick}
 use Rattle.dma.specs.Pages.{table}
 use Rattle.dma.specs.declared.Buffer.{Buffer}
@@ -16,11 +15,10 @@ use Rattle.command.specs.declared.CmdResult.the-variants as r
 use Rattle.reset.specs.Reset.{reset, isGood}
 use Rattle.buffer.specs.Buffer.{freeing}
 use Rattle.tasks.specs.Parting.{releasing, restoring, quieting}
-use Rattle.session.specs.Session.{noBuffer, noIcm, wired, broken, silent, books, bufferAt, icmAt, bufferOf, immOf}
+use Rattle.session.specs.Session.{wired, broken, silent, books, bufferAt, icmAt, bufferOf, immOf}
 use Rattle.session.specs.Course.{Course, ret, Here, here, left, task, sends, Rest, atRest}
 use Rattle.session.specs.declared.Hold.{Hold}
 use Rattle.session.specs.declared.Hold.the-variants as o
-use Rattle.session.specs.declared.Icm.{Icm}
 use Rattle.session.specs.declared.Top.{Top}
 use Rattle.session.specs.declared.Books.{Books}
 use Rattle.session.specs.declared.Info.{Info}

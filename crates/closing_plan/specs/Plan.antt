@@ -1,6 +1,6 @@
 -- The plan of a closing and of a quiesce: what follows when a task has ended, as a function on the session.
-use Prim.Native.Nat.{ℕ, zero, suc, _+_, _-_, _%_, _^_}
-use mathlib.Core.Bool.{Bool, true, false}
+use Prim.Native.Nat.{ℕ, zero, suc, _+_, _%_, _^_}
+use mathlib.Core.Bool.{true}
 use mathlib.Core.List.{List, _++_}
 use lib.Dec.{eqb, ltb}
 use Rattle.fields.specs.Outcome.{pick}
@@ -15,12 +15,11 @@ use Rattle.reset.specs.declared.ResetEnd.the-variants as x
 use Rattle.buffer.specs.Steps.{startFree}
 use Rattle.tasks.specs.declared.Parting.the-variants as p
 use Rattle.work.specs.Work.{working, workScript}
-use Rattle.work.specs.declared.Task.{Task}
 use Rattle.work.specs.declared.Task.the-variants as t
 use Rattle.work.specs.declared.End.{End}
 use Rattle.work.specs.declared.End.the-variants as e
 use Rattle.session.specs.Session.{session, starts, sendsOf, tookOf, breaksOf, silencedOf, planned, bufferAt, icmAt, bufferOf, immOf, wired, after}
-use Rattle.session.specs.Course.{Course, ret, Here, here, left, task, Rest, restOf, atRest}
+use Rattle.session.specs.Course.{Course, ret, Here, here, left, task, Rest, atRest}
 use Rattle.session.specs.declared.Hold.{Hold}
 use Rattle.session.specs.declared.Hold.the-variants as o
 use Rattle.session.specs.declared.Top.{Top}
@@ -36,7 +35,7 @@ use Rattle.session.specs.declared.Closing.the-variants as c
 use Rattle.session.specs.declared.Fill.the-variants as w
 use Rattle.session.specs.declared.Session.{Session}
 use Rattle.session.specs.declared.Planned.{Planned}
-use Rattle.closing_plan.specs.Closing.{isDone, isHeld, emptied, undoPost, popped, UNDOS, lendsFrom, rangesFrom, areas, inHold, boxes}
+use Rattle.closing_plan.specs.Closing.{isDone, isHeld, emptied, undoPost, popped, UNDOS, lendsFrom, rangesFrom, inHold, boxes}
 use Rattle.closing_plan.specs.Closing as q
 
 -- how a command and a reset ended; a task of the plan ends in its own kind, any other counts as failed

@@ -1,22 +1,21 @@
 -- Each state of the command machine does what is left of the script, and no other answer moves it.
 use Prim.Native.Nat.{ℕ, zero, suc, _+_, _-_, _*_, _≤_, _<_}
-use mathlib.Core.Bool.{Bool, true, false, not}
-use mathlib.Core.List.{List, [], _∷_}
-use mathlib.Core.Option.{Option, some, none}
-use mathlib.Core.Path.{_≡_, refl, ap, sym, subst, _∙_}
+use mathlib.Core.Bool.{Bool, true, false}
+use mathlib.Core.List.{List}
+use mathlib.Core.Path.{_≡_, refl, ap, sym, subst}
 use native.Mathlib.Nat.{min-eq-right}
 use native.Mathlib.Numerals.{add-one}
 use native.Mathlib.Omega.{arith}
 use borrow.Author.Tests.{ltb-true, ltb-false, lt-ltb, le-ltb, le-leb, lt-leb}
-use lib.Dec.{eqb, leb, ltb}
+use lib.Dec.{eqb, ltb}
 use lib.ListN.{drop}
 use Rattle.fields.specs.Outcome.{pick}
 use Rattle.hcr.specs.Words.{register, swapOf, pendingIn, statusIn, stallOf, waitedOf}
 use Rattle.hcr.specs.declared.Post.{Post}
 use Rattle.hcr.proofs.Laws.{no-sooner}
 use Rattle.pci.specs.Views.{dwordOf, doneOf, toldOf}
-use Rattle.pci.specs.Script.{Script, ret, ask, stall, asRegister, asDone, asTold}
-use Rattle.pci.specs.Machine.{Next, more, ended, Right, Follows, rest}
+use Rattle.pci.specs.Script.{Script, ask, stall, asRegister, asDone, asTold}
+use Rattle.pci.specs.Machine.{Next, more, Right, Follows, rest}
 use Rattle.pci.specs.declared.Question.the-variants.{RegWrite}
 use Rattle.pci.specs.declared.Answer.{Answer}
 use Rattle.pci.specs.declared.DwordReply.{DwordReply}
@@ -33,7 +32,6 @@ use Rattle.command.specs.declared.Phase.{Phase}
 use Rattle.command.specs.declared.Phase.the-variants as p
 use Rattle.command.specs.declared.Cmd.{Cmd}
 use Rattle.command.specs.declared.CmdStep.{CmdStep}
-use Rattle.command.specs.declared.CmdStep.the-variants.{More, Ended}
 use Rattle.command.specs.Script.{STALLS, ending, onRead, onWrite, timedOut, low, immediate, judged, verdict, poll, words, writeAll, start, fenced, command}
 use Rattle.command.specs.Machine.{cmdAsks, cmdStepOf, cmdScript, next, onDword, onDone, onTold, onEither, timeoutOf, writtenOf, wordAt, goOn}
 use Rattle.command.proofs.Laws.{enough, left-more, left-none}

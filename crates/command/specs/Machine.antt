@@ -1,7 +1,7 @@
 -- The command machine: what it asks in each phase, what a step leads to, and which script is left.
-use Prim.Native.Nat.{ℕ, zero, suc, _+_, _-_, _*_, _^_, min}
+use Prim.Native.Nat.{ℕ, _+_, _-_, _*_, _^_, min}
 use mathlib.Core.Bool.{Bool, not}
-use mathlib.Core.List.{List, [], _∷_}
+use mathlib.Core.List.{List}
 use lib.Dec.{eqb, leb, ltb}
 use lib.ListN.{getD, drop}
 use Rattle.fields.specs.Outcome.{pick}
@@ -9,7 +9,7 @@ use Rattle.hcr.specs.Words.{register, writesOf, goWord, pendingIn, statusIn, st
 use Rattle.hcr.specs.declared.Post.{Post}
 use Rattle.hcr.specs.declared.RegWrite.{RegWrite as RegWriteOf}
 use Rattle.pci.specs.Views.{dwordOf, doneOf, toldOf}
-use Rattle.pci.specs.Script.{Script, ask, stall, read, ret, write, fence}
+use Rattle.pci.specs.Script.{Script, ask, stall, read, ret}
 use Rattle.pci.specs.Machine.{Next, more, ended}
 use Rattle.pci.specs.declared.Question.{Question}
 use Rattle.pci.specs.declared.Question.the-variants.{RegRead, RegWrite, Stall, Fence}
@@ -30,7 +30,7 @@ use Rattle.command.specs.declared.Phase.the-variants as p
 use Rattle.command.specs.declared.Cmd.{Cmd}
 use Rattle.command.specs.declared.CmdStep.{CmdStep}
 use Rattle.command.specs.declared.CmdStep.the-variants.{More, Ended}
-use Rattle.command.specs.Script.{STALLS, ending, onRead, reading, timedOut, low, immediate, judged, verdict, poll, words, writeAll, start, fenced, command}
+use Rattle.command.specs.Script.{STALLS, ending, low, immediate, judged, verdict, poll, words, writeAll, start, fenced, command}
 
 -- the command in another phase; with another count of stalls; with the toggle flipped
 abbrev pub inPhase : Cmd → Phase → Cmd

@@ -7,7 +7,6 @@ use lib.Dec.{leb}
 use Rattle.fields.specs.Outcome.{Outcome, value, refused, pick}
 use Rattle.dma.specs.Buffers.{pagesFor}
 use Rattle.hcr.specs.Words.{isReserved}
-use Rattle.hcr.specs.declared.Post.{Post}
 use Rattle.pci.specs.declared.Answer.{Answer}
 use Rattle.pci.specs.declared.Refusal.the-variants as x
 use Rattle.buffer.specs.Buffer.{byOutcome}
@@ -34,13 +33,12 @@ use Rattle.session.specs.declared.Fill.{Fill}
 use Rattle.session.specs.declared.Fill.the-variants as w
 use Rattle.session.specs.declared.Session.{Session}
 use Rattle.session.specs.declared.Planned.{Planned}
-use Rattle.closing_plan.specs.Closing.{isDone, undoPost, popped, UNDOS}
+use Rattle.closing_plan.specs.Closing.{isDone, UNDOS}
 use Rattle.closing_plan.specs.Plan.{cmdIn}
 use Rattle.client_plan.specs.Client.{givesOutput, postOf}
 use Rattle.client_plan.specs.Plan.{restPlan, commandPlan, lendPlan, lendEnded, undoSend, undoPlan, clientPlan}
-use Rattle.client_plan.specs.declared.Request.{Request}
 use Rattle.fw_plan.specs.Calls.{planOf, planAt, filled, withWork, begunOf, stepTurn, stepOf}
-use Rattle.calls_plan.specs.Calls.{planFor, readyIn, begunTurn}
+use Rattle.calls_plan.specs.Calls.{readyIn, begunTurn}
 use Rattle.calls_plan.specs.declared.Call.{Call}
 use Rattle.calls_plan.specs.declared.Call.the-variants as c
 

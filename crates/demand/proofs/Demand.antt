@@ -10,7 +10,7 @@ use lib.Dec.{eqb, leb}
 use borrow.Author.Tests.{eqb-true, leb-false}
 use lib.ListN.{length}
 use Rattle.fields.specs.Outcome.{pick}
-use Rattle.pci.specs.Script.{Ask, Reply, shown, replyOf}
+use Rattle.pci.specs.Script.{Ask, Reply, replyOf}
 use Rattle.pci.specs.Machine.{Right}
 use Rattle.pci.specs.declared.Question.the-variants as q
 use Rattle.pci.specs.declared.Answer.{Answer}
@@ -25,12 +25,11 @@ use Rattle.work.specs.declared.Task.the-variants as t
 use Rattle.dma.specs.Buffers.{pagesFor}
 use Rattle.dma.specs.declared.Buffer.{Buffer}
 use Rattle.hcr.specs.Words.{isReserved}
-use Rattle.session.specs.Session.{fresh, wired, broken}
+use Rattle.session.specs.Session.{wired, broken}
 use Rattle.session.specs.declared.Wire.{Wire}
 use Rattle.session.specs.declared.Gave.{Gave}
 use Rattle.session.specs.declared.Gave.the-variants as gv
 use Rattle.session.specs.declared.Client.{Client}
-use Rattle.session.specs.declared.Client.the-variants as kc
 use Rattle.session.specs.Course.{Course, ret, ask, Here, here, Lent, Left, left, Rest, atRest, restOf}
 use Rattle.session.specs.declared.Top.{Top}
 use Rattle.session.specs.declared.Books.{Books}
@@ -45,14 +44,14 @@ use Rattle.session.specs.declared.Closing.the-variants as c
 use Rattle.session.specs.declared.Session.{Session}
 use Rattle.closing_plan.specs.Closing.{lendsFrom, emptied}
 use Rattle.fw_plan.specs.Calls.{asksOf, isSession, isLent, answerable, inTime, refusedOf, answerOf, answerIn, stepTurn, stepOf, stepIn}
-use Rattle.calls_plan.specs.Calls.{isFresh, isOpen, isTime, callable, hasRoom, lentFor, byOpcode, byPages, byList, barred, begunTurn, begunInbox, unless, admitted, admittedIn, callOf, callIn, courseFor}
+use Rattle.calls_plan.specs.Calls.{isFresh, isOpen, isTime, callable, hasRoom, lentFor, byOpcode, byPages, byList, barred, begunTurn, begunInbox, unless, admitted, callOf, callIn, courseFor}
 use Rattle.calls_plan.specs.declared.Call.{Call as Made}
 use Rattle.calls_plan.specs.declared.Call.the-variants as kn
 use Rattle.calls_plan.proofs.Begins.{begunAt, begins}
 use Rattle.fw_plan.specs.Follows.{courseOf, courseAt, isRunning, hereAfter, Follows}
 use Rattle.fw_plan.specs.declared.Turn.{Turn}
 use Rattle.fw_plan.proofs.Session.{session-follows}
-use Rattle.card.specs.Card.{Held, Command, Card, Settles, Hold, Host, World, WorldStep, MayUse, Allowed, Meets, Holds, Carries, Other, kind, effect, lendTo}
+use Rattle.card.specs.Card.{Held, Command, Card, Settles, Hold, Host, World, WorldStep, MayUse, Allowed, Meets, Holds, Other, kind, effect, lendTo}
 use Rattle.card.specs.Owns.{Owns, Pairwise, Apart, InBooks, spotOf, outs, backs}
 use Rattle.card.proofs.Command.{within-stable, within-more, quiet-stable}
 use Rattle.card.proofs.View.{empty-uses, held-before, other-effect}
@@ -68,7 +67,7 @@ use Rattle.card_calls.proofs.Client.{Given, safe-commanding, safe-lending, safe
 use Rattle.card_calls.proofs.Calm.{CalmAsk, CalmCourse, calm-step, commanding-calm, lending-calm, undoing-to-calm}
 use Rattle.card_calls.proofs.Opening.{safe-opening}
 use Rattle.demand.specs.Events.{Call, callMake, callAnswer, Event, turn, asked, Stand, Rests, Answers, Happens, SameBox, boxLeft, isClosing, inboxAfter, isLending, bufferOf, givenAt, lentNow, lendsTo, SizedMade, Step}
-use Rattle.demand.specs.Demand.{QuestionKept, Exact, UntilQuiet, Returned, Kept, EndedBy, GoodAt, Good, Start, Always, Demand}
+use Rattle.demand.specs.Demand.{QuestionKept, Exact, Returned, Kept, EndedBy, GoodAt, Good, Start, Always, Demand}
 use Rattle.demand.proofs.Plans.{IsRest, Fit, Suited, HeldAt, Known, HeldClose, held-all, held-map, held-step, Both, step-both, begun-needs, begun-both, fit-other, not-client, NotClient}
 use Rattle.demand.proofs.Clients.{IsClient, Same, OfClient, step-same, begun-same}
 use Rattle.demand.proofs.Settle.{settled-uses, at, rests-at, course-settled}
@@ -76,7 +75,7 @@ use Rattle.demand.proofs.Questions.{asked-shown, rest-asks, nothing-ask
 use Rattle.demand.proofs.OnePage.{one-page}
 use Rattle.card.specs.Known.{Empty, Nothing, Quiet, Within}
 use Rattle.card_calls.specs.Owed.{OwedBy}
-use Rattle.card_calls.specs.Holding.{Boxes, Calm, Mine, Uses, Lies, Opened, Idle, lents}
+use Rattle.card_calls.specs.Holding.{Boxes, Calm, Mine, Uses, Lies, Idle, lents}
 use Rattle.card_calls.specs.Ranges.{AsLaid}
 use Rattle.card.proofs.Bools.{and-left, and-right}
 use Rattle.demand.proofs.Inbox.{step-length, call-length}

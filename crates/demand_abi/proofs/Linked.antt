@@ -29,18 +29,18 @@ use Rattle.fw_plan.specs.Calls.{answerable, answerOf, answerIn, answerOut, refu
 use Rattle.fw_plan.specs.declared.Turn.{Turn}
 use Rattle.calls_plan.specs.Calls.{callable, callOf, callIn, callOut}
 use Rattle.calls_plan.specs.declared.Call.{Call as Made}
-use Rattle.abi.specs.Turns.{After, after, codeBy, taken, turned, callKnown, answerKnown, called, answered}
+use Rattle.abi.specs.Turns.{After, after, codeBy, taken, callKnown, answerKnown, called, answered}
 use Rattle.abi.specs.Calls.{requestOf, callFrom, wantedBy, made, heardBy, told}
 use Rattle.abi.specs.Kept.{givenBy, callNext, answerNext, wantedNext, heardNext, Keeps, Holds}
 use Rattle.abi.specs.Kept as k
 use Rattle.abi.proofs.Poll.{poll-is-whole}
 use Rattle.card.specs.Card.{Hold, World}
-use Rattle.card_calls.specs.SafeCourse.{Typed, Lendable, Sized as SizedRequest}
+use Rattle.card_calls.specs.SafeCourse.{Typed, Sized as SizedRequest}
 use Rattle.demand.specs.Events.{callMake, callAnswer, SizedMade, SizedCall, SameBox, boxLeft, turnBy, inboxBy}
 use Rattle.demand.specs.Events as v
 use Rattle.demand.specs.Demand as w
 use Rattle.demand.proofs.Demand.{demand}
-use Rattle.demand_abi.specs.Linked.{Call, hcaCall, hcaAnswer, Event, leaves, leavesBy, next, nextBy, HeardBy, HappensBy, Sized, Record, Stand, standOf, Step, GoodIn, Always, Start, Linked}
+use Rattle.demand_abi.specs.Linked.{Call, hcaCall, hcaAnswer, Event, leaves, next, nextBy, HeardBy, HappensBy, Record, Stand, standOf, Step, Always, Linked}
 
 -- THE NUMBER of a refusal is not 0
 number-some : (w : Refusal) → eqb (numberOf {A = Unit {0}} (refusal w)) 0 ≡ false

@@ -1,12 +1,9 @@
 -- Where a plan is begun the course goes on as the plan's laws say.
 use Prim.Native.Nat.{ℕ}
-use mathlib.Core.Bool.{Bool, true, false}
 use mathlib.Core.List.{List}
-use mathlib.Core.Path.{_≡_, refl, ap, sym, _∙_}
+use mathlib.Core.Path.{_≡_, refl, ap, _∙_}
 use borrow.Author.Tests.{eq-eqb}
-use lib.Dec.{eqb}
 use lib.ListN.{length}
-use Rattle.fields.specs.Outcome.{pick}
 use Rattle.dma.specs.PageList.{listedOf, filledAt}
 use Rattle.dma.specs.declared.Cutter.{Cutter}
 use Rattle.pci.specs.Script.{Ask, Reply, good, failed, configRead16, configRead32, configWrite16, configWrite32, read, write, attributes, resource, stall, allocate, mapped, unmap, free, fence}
@@ -14,7 +11,7 @@ use Rattle.work.specs.Work.{workScript}
 use Rattle.work.specs.declared.Work.{Work}
 use Rattle.work.specs.declared.End.{End}
 use Rattle.session.specs.Session.{session, planned}
-use Rattle.session.specs.Course.{Course, ret, ask, Here, here, Lent, left, lent, Box, neither, touched, run, Rest, restOf}
+use Rattle.session.specs.Course.{Here, here, neither, touched, run}
 use Rattle.session.proofs.Courses.{run-same}
 use Rattle.session.specs.declared.Top.{Top}
 use Rattle.session.specs.declared.Books.{Books}
@@ -35,9 +32,9 @@ use Rattle.session.specs.declared.Fill.{Fill}
 use Rattle.session.specs.declared.Fill.the-variants as w
 use Rattle.session.specs.declared.Session.{Session}
 use Rattle.session.specs.declared.Planned.{Planned}
-use Rattle.closing_plan.specs.Plan.{closeCourse, afterClose, closePlan}
+use Rattle.closing_plan.specs.Plan.{closeCourse, afterClose}
 use Rattle.closing_plan.proofs.Lands as z
-use Rattle.client_plan.specs.Plan.{clientCourse, afterClient, clientPlan}
+use Rattle.client_plan.specs.Plan.{clientCourse, afterClient}
 use Rattle.client_plan.proofs.Lands as cl
 use Rattle.opening_plan.specs.Plan.{bootCourse, prepareCourse, afterBoot, afterPrepare, boxOf, lists}
 use Rattle.opening_plan.proofs.Lands.{wrote, leads, boot-lands, prepare-lands}

@@ -2,17 +2,15 @@
 use Prim.Native.Nat.{ℕ, _/_}
 use mathlib.Core.Bool.{Bool, true, false}
 use mathlib.Core.List.{List}
-use mathlib.Core.Option.{Option, some, none}
 use mathlib.Core.Path.{_≡_, refl, ap, sym, subst, _∙_}
 use lib.ListN.{length}
 use Rattle.fields.specs.Outcome.{pick}
-use Rattle.pci.specs.Script.{Script, _>>=_, Ask, Reply, shown, replyOf, Bus, good, failed, configRead16, configRead32, configWrite16, configWrite32, read, write, attributes, resource, stall, allocate, mapped, unmap, free, fence}
+use Rattle.pci.specs.Script.{Script, _>>=_, Ask, Reply, shown, replyOf, configRead16, configRead32, configWrite16, configWrite32, read, write, attributes, resource, stall, allocate, mapped, unmap, free, fence}
 use Rattle.pci.specs.Script as sc
 use Rattle.pci.specs.Views.{grantedOf}
 use Rattle.pci.specs.Machine.{Right, rest}
 use Rattle.pci.specs.Machine as pm
 use Rattle.pci.proofs.Within.{right-map}
-use Rattle.pci.specs.declared.Question.{Question}
 use Rattle.pci.specs.declared.Question.the-variants as q
 use Rattle.pci.specs.declared.Answer.{Answer}
 use Rattle.pci.specs.declared.Answer.the-variants as an
@@ -56,7 +54,7 @@ use Rattle.work.specs.declared.Work.{Work}
 use Rattle.work.specs.declared.End.{End}
 use Rattle.work.specs.declared.Ending.{Ending}
 use Rattle.work.specs.declared.Ending.the-variants as e
-use Rattle.session.specs.Course.{Course, ret, ask, Here, here, Lent, left, lent, Box, neither, inbox, outbox, touched, zeroed, run, Rest, restOf}
+use Rattle.session.specs.Course.{Course, ret, ask, Here, here, Lent, lent, Box, neither, inbox, outbox, touched, zeroed, run, Rest}
 use Rattle.session.specs.declared.Books.{Books}
 use Rattle.session.specs.declared.Info.{Info}
 use Rattle.session.specs.declared.Failure.{Failure}
@@ -77,7 +75,7 @@ use Rattle.fw_plan.specs.Calls.{asksOf, stepOf, stepIn, stepOut, stepTur
 use Rattle.fw_plan.specs.declared.Wipe.{Wipe}
 use Rattle.fw_plan.specs.declared.Wipe.the-variants as v
 use Rattle.fw_plan.specs.Follows.{courseOf, courseAt, isRunning, hereAfter, Follows}
-use Rattle.fw_plan.proofs.Landed.{same-course, begun-leads, counted, at, boot-course, client-course, close-course, prepare-course, boot-plan, client-plan, close-plan, prepare-plan, touched-neither}
+use Rattle.fw_plan.proofs.Landed.{begun-leads, counted, at, boot-course, client-course, close-course, prepare-course, boot-plan, client-plan, close-plan, prepare-plan, touched-neither}
 
 abbrev Holds : Bool → Type 0
 Holds true = Unit {0}

@@ -1,7 +1,6 @@
 -- A page list that was written, or not: what the session is then.
-use Prim.Native.Nat.{ℕ}
 use mathlib.Core.Bool.{Bool, true, false}
-use mathlib.Core.List.{List, []}
+use mathlib.Core.List.{[]}
 use mathlib.Core.Path.{_≡_, refl, ap, sym, subst}
 use Rattle.fields.specs.Outcome.{Outcome, value, refused, pick}
 use Rattle.dma.specs.declared.Listed.{Listed}

@@ -1,6 +1,6 @@
 -- An answer: what it leaves of the session, the mailboxes and the undo list, and when it is refused.
-use Prim.Native.Nat.{ℕ, _≤_}
-use mathlib.Core.Bool.{Bool, true, false, _&&_, not}
+use Prim.Native.Nat.{ℕ}
+use mathlib.Core.Bool.{Bool, true, false, _&&_}
 use mathlib.Core.List.{List}
 use lib.Dec.{eqb, leb}
 use lib.ListN.{length}
@@ -19,8 +19,6 @@ use Rattle.pci.specs.declared.HandleReply.the-variants as h
 use Rattle.pci.specs.declared.Refusal.{Refusal}
 use Rattle.pci.specs.declared.Refusal.the-variants as x
 use Rattle.work.specs.Work.{workAsks, workStepOf}
-use Rattle.work.specs.declared.Task.{Task}
-use Rattle.work.specs.declared.Task.the-variants as t
 use Rattle.work.specs.declared.End.{End}
 use Rattle.work.specs.declared.Ending.{Ending}
 use Rattle.work.specs.declared.Ending.the-variants as e
@@ -28,7 +26,6 @@ use Rattle.work.specs.declared.Work.{Work}
 use Rattle.session.specs.Session.{session, planned}
 use Rattle.session.specs.Course.{blank}
 use Rattle.session.specs.declared.Top.{Top}
-use Rattle.session.specs.declared.Books.{Books}
 use Rattle.session.specs.declared.Info.{Info}
 use Rattle.session.specs.declared.Stage.{Stage}
 use Rattle.session.specs.declared.Stage.the-variants as g

@@ -2,14 +2,12 @@
 use Prim.Native.Nat.{ℕ}
 use mathlib.Core.Bool.{Bool, true, false}
 use mathlib.Core.List.{List}
-use mathlib.Core.Option.{Option, some, none}
 use mathlib.Core.Path.{_≡_}
-use Rattle.pci.specs.Script.{Ask, Reply, shown, replyOf}
+use Rattle.pci.specs.Script.{shown, replyOf}
 use Rattle.pci.specs.Machine.{Right}
 use Rattle.pci.specs.declared.Question.the-variants as q
 use Rattle.pci.specs.declared.Answer.{Answer}
-use Rattle.work.specs.Work.{isResting}
-use Rattle.session.specs.Course.{Course, ret, ask, Here, here, Lent, Left, left, Rest, restOf}
+use Rattle.session.specs.Course.{Course, ret, ask, Here, here, Lent, left, Rest, restOf}
 use Rattle.session.specs.declared.Stage.{Stage}
 use Rattle.session.specs.declared.Stage.the-variants as g
 use Rattle.session.specs.declared.Session.{Session}
@@ -17,7 +15,6 @@ use Rattle.closing_plan.specs.Plan.{closeCourse}
 use Rattle.client_plan.specs.Plan.{clientCourse}
 use Rattle.opening_plan.specs.Plan.{bootCourse, prepareCourse}
 use Rattle.fw_plan.specs.Calls.{asksOf, stepOf, stepIn, stepOut}
-use Rattle.fw_plan.specs.declared.Turn.{Turn}
 
 -- THE COURSE that is left in a session: of the call that its stage names, from the task that is under way on
 abbrev pub courseAt : Stage → Session → Here → Course Rest

@@ -1,18 +1,18 @@
 -- Laws of the command register's words: the wait, and the order of bytes.
 use Prim.Native.Nat.{ℕ, zero, suc, _+_, _-_, _*_, _/_, _%_, _^_, _≤_, _<_}
-use mathlib.Core.Bool.{Bool, true, false, _||_}
+use mathlib.Core.Bool.{Bool, true, false}
 use mathlib.Core.Path.{_≡_, refl, ap, sym, subst, _∙_}
-use mathlib.Core.List.{List, [], _∷_}
-use native.Mathlib.Nat.{add-zero, add-suc, le-of-suc-le-suc, mod-lt, mod-eq-of-lt, div-lt-iff-lt-mul}
+use mathlib.Core.List.{List}
+use native.Mathlib.Nat.{add-zero, add-suc, mod-lt, mod-eq-of-lt, div-lt-iff-lt-mul}
 use native.Mathlib.Numerals.{add-one}
 use native.Mathlib.Omega.{arith}
-use borrow.Author.Tests.{lt-ltb, le-ltb, ltb-true, ltb-false, eq-eqb, ne-eqb}
-use lib.Dec.{ltb, eqb, lit≤, lit<}
+use borrow.Author.Tests.{lt-ltb, le-ltb, eq-eqb, ne-eqb}
+use lib.Dec.{ltb, lit≤, lit<}
 use lib.ListN.{length, getD, drop}
 use lib.Pow.{shr-shr, split}
 use lib.Seq.{drop-cons}
 use Rattle.fields.specs.Outcome.{pick}
-use Rattle.hcr.specs.Words.{stallOf, waitedOf, swapOf, isIn}
+use Rattle.hcr.specs.Words.{waitedOf, swapOf, isIn}
 
 -- the first n stalls together: 1 µs each up to 1,000, then 100 µs each
 pub waited-short : (n : ℕ) → n ≤ 1000 → waitedOf n ≡ n

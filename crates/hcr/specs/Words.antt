@@ -1,6 +1,6 @@
 -- The command register, as words. Document 01, hcr: "Status dword at 0x80680+0x18: GO bit 23, T bit 21, status top byte. Pending: GO set, or T equal to the
 -- toggle. .. Writes at 0x00, 0x04, 0x08, 0x0c, 0x10, 0x14 (0xffff0000), then 0x18".
-use Prim.Native.Nat.{ℕ, zero, suc, _+_, _-_, _*_, _/_, _%_, _^_, min}
+use Prim.Native.Nat.{ℕ, zero, suc, _+_, _*_, _/_, _%_, _^_}
 use mathlib.Core.Bool.{Bool, true, false, _||_, not}
 use mathlib.Core.List.{List, [], _∷_}
 use lib.Dec.{ltb, eqb}

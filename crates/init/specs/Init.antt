@@ -1,5 +1,5 @@
 -- The mailboxes of INIT_HCA and MOD_STAT_CFG, each as a table of fields (offset, width, value) over zeros: "unset bytes are 0".
-use Prim.Native.Nat.{ℕ, _+_, _/_, _%_, _^_, max}
+use Prim.Native.Nat.{ℕ, _+_, _/_, _%_}
 use mathlib.Core.Bool.{Bool, _&&_, _||_}
 use mathlib.Core.List.{List, [], _∷_}
 use lib.Count.{trailingZeros}

@@ -7,7 +7,6 @@ use borrow.Author.Tests.{lt-ltb, le-ltb}
 use lib.Dec.{ltb}
 use lib.ListN.{length}
 use Rattle.fields.specs.Outcome.{Outcome, value, refused, valueOr, pick}
-use Rattle.layout.specs.declared.Table.{Table}
 use Rattle.layout.specs.declared.Layout.{Layout}
 use Rattle.layout.specs.declared.Fit.{Fit}
 use Rattle.layout.specs.declared.Fit.the-variants.{Accepted, Entry, Total}

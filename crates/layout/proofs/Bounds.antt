@@ -1,12 +1,12 @@
 -- How large the counts can be.
 use Prim.Native.Nat.{ℕ, _+_, _*_, _/_, _^_, _≤_, _<_}
-use mathlib.Core.Path.{_≡_, ap, sym, subst}
+use mathlib.Core.Path.{_≡_, sym, subst}
 use mathlib.Core.List.{List}
 use native.Mathlib.Nat.{add-mul, div-lt-iff-lt-mul, mul-le-mul, div-mul-le-self}
 use native.Mathlib.Omega.{arith}
 use lib.Dec.{lit≤}
 use Rattle.layout.specs.declared.Table.{Table}
-use Rattle.layout.specs.Layout.{pow2Of, tableIn}
+use Rattle.layout.specs.Layout.{tableIn}
 use Rattle.layout.specs.Counts.{lines, firstFree}
 use Rattle.layout.specs.Inner.{All, Modest}
 use Rattle.layout.proofs.Order.{modest-none}

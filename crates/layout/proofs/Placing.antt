@@ -1,12 +1,12 @@
 -- The loops that make the tables and give them their bases, on lists.
-use Prim.Native.Nat.{ℕ, zero, suc, zero-le, _+_, _-_, _*_, _^_, _≤_, _<_, max}
-use mathlib.Core.Bool.{Bool, true, false, not}
+use Prim.Native.Nat.{ℕ, suc, _+_, _-_, _*_, _^_, _≤_, _<_}
+use mathlib.Core.Bool.{Bool, true, false}
 use mathlib.Core.Path.{_≡_, refl, ap, sym, _∙_}
 use mathlib.Core.List.{List, [], _∷_, _++_, append-assoc}
 use native.Mathlib.Nat.{add-zero, add-assoc}
 use native.Mathlib.Numerals.{add-one}
 use native.Mathlib.Omega.{arith}
-use borrow.Author.Tests.{not-true, not-false, eq-eqb, ne-eqb}
+use borrow.Author.Tests.{eq-eqb, ne-eqb}
 use lib.Dec.{eqb}
 use lib.ListN.{length, getD, set, take, drop}
 use lib.Seq.{getD-drop, take-suc-set, drop-set-lt, drop-cons}
@@ -14,7 +14,6 @@ use Rattle.fields.specs.Outcome.{pick}
 use Rattle.layout.specs.declared.Table.{Table}
 use Rattle.layout.specs.declared.Placed.{Placed}
 use Rattle.layout.specs.declared.Range.{Range}
-use Rattle.layout.specs.declared.Layout.{Layout}
 use Rattle.layout.specs.Layout.{noTable, tableOf, tablesFrom, sortInto, based, placeFrom, totalOf, rowsOf, isPow2, firstBad, tableIn, rangesOf, layOut}
 use Rattle.layout.specs.Inner.{All, Small, Modest, placed}
 

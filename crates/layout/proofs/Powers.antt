@@ -1,14 +1,14 @@
 -- Raising to a power of two.
 use Prim.Native.Nat.{ℕ, zero, suc, zero-le, _+_, _-_, _*_, _^_, _≤_, _<_}
 use mathlib.Core.Bool.{Bool, true, false}
-use mathlib.Core.Path.{_≡_, refl, ap, sym, subst, _∙_}
+use mathlib.Core.Path.{_≡_, refl, sym, subst, _∙_}
 use native.Mathlib.Nat.{pow-suc, add-zero, add-suc, suc-add, not-le-of-lt, le-trans, le-of-eq, le-antisymm}
-use native.Mathlib.Numerals.{sub-one, add-one}
+use native.Mathlib.Numerals.{sub-one}
 use native.Mathlib.Omega.{arith}
 use borrow.Author.Tests.{leb-true, leb-false, le-leb, lt-leb, eqb-true, eq-eqb}
 use lib.Arith.{lt-of-le-ne}
-use lib.Dec.{leb, eqb}
-use lib.Pow.{pow-mono, pow-lt}
+use lib.Dec.{leb}
+use lib.Pow.{pow-mono}
 use Rattle.fields.specs.Outcome.{pick}
 use Rattle.layout.specs.Layout.{firstPow, pow2Of, isPow2, Pow}
 

@@ -5,7 +5,7 @@ use Prim.Native.Nat.{ℕ, _+_, _*_, _/_, _^_, min, max}
 use mathlib.Core.List.{List, [], _∷_}
 use lib.Dec.{eqb}
 use lib.ListN.{getD}
-use Rattle.fields.specs.Outcome.{Outcome, value, refused, pick}
+use Rattle.fields.specs.Outcome.{Outcome, pick}
 use Rattle.reply.specs.declared.DevCap.{DevCap}
 use Rattle.layout.specs.declared.Layout.{Layout}
 use Rattle.layout.specs.Layout.{pow2Of, layoutOf}

@@ -1,5 +1,5 @@
 -- What functions inside the crate ask and say; no public contract cites it.
-use Prim.Native.Nat.{ℕ, _<_, _≤_, _^_}
+use Prim.Native.Nat.{_<_, _≤_, _^_}
 use mathlib.Core.List.{List, [], _∷_}
 use Rattle.layout.specs.declared.Table.{Table}
 use Rattle.layout.specs.declared.Placed.{Placed}

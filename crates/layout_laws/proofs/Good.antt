@@ -3,13 +3,13 @@ use Prim.Native.Nat.{ℕ, zero, suc, zero-le, _+_, _-_, _*_, _^_, _≤_, _<_, ma
 use mathlib.Core.Bool.{Bool, true, false}
 use mathlib.Core.Path.{_≡_, refl, ap, sym, subst, _∙_}
 use mathlib.Core.List.{List, [], _∷_}
-use native.Mathlib.Nat.{add-mul, zero-mul, sub-add-cancel, le-max-left, le-max-right, max-eq-left, max-eq-right, le-trans, le-of-suc-le-suc, suc-add, add-suc, add-zero, zero-add}
+use native.Mathlib.Nat.{add-mul, zero-mul, sub-add-cancel, max-eq-left, max-eq-right, le-of-suc-le-suc, suc-add, add-suc, add-zero, zero-add}
 use native.Mathlib.Omega.{arith}
-use borrow.Author.Tests.{leb-true, leb-false, ltb-true, ltb-false, le-ltb, eqb-true, eqb-false}
-use lib.Dec.{ltb, leb, eqb, lit≤}
+use borrow.Author.Tests.{leb-true, leb-false, ltb-false, le-ltb}
+use lib.Dec.{ltb, leb}
 use lib.ListN.{length, getD}
 use lib.Pow.{pow-lt, pow-mono, pow-add}
-use Rattle.fields.specs.Outcome.{Outcome, value, refused, pick}
+use Rattle.fields.specs.Outcome.{value, refused, pick}
 use Rattle.fields.proofs.Outcomes.{past, same-value}
 use Rattle.layout.specs.declared.Table.{Table}
 use Rattle.layout.specs.declared.Layout.{Layout}
@@ -18,7 +18,7 @@ use Rattle.layout.specs.Inner.{All}
 use Rattle.layout_laws.specs.Good.{Multiple, Ordered, Before, Tiles, GoodLayout}
 use Rattle.layout.specs.Layout.{Pow}
 use Rattle.layout.proofs.Powers.{raised, is-pow, pow-is}
-use Rattle.layout.proofs.Order.{all-map, all-sort}
+use Rattle.layout.proofs.Order.{all-sort}
 use Rattle.layout.proofs.Placing.{total-placed}
 use Rattle.layout_laws.proofs.Rows.{before-le, tables-rising, sort-ordered, placed-ordered, placed-tiles, length-placed, length-sort, length-tables, find-sorted, find-placed, find-made}
 

@@ -1,23 +1,21 @@
 -- The fourteen mapped ranges of an accepted layout: in whole pages, at most 2^24 of them, within the area, and no two with a byte in common.
-use Prim.Native.Nat.{ℕ, zero, suc, zero-le, _+_, _-_, _*_, _/_, _^_, _≤_, _<_, max}
+use Prim.Native.Nat.{ℕ, _+_, _-_, _*_, _/_, _^_, _≤_, _<_, max}
 use mathlib.Core.Bool.{Bool, true, false, _&&_, not}
 use mathlib.Core.Logic.{_⊎_, inl, inr}
 use mathlib.Core.Path.{_≡_, refl, ap, sym, subst, _∙_}
-use mathlib.Core.List.{List, [], _∷_, map}
-use native.Mathlib.Nat.{mul-le-mul, mul-assoc, mul-comm, max-le, le-max-left, le-max-right, max-eq-left, le-trans, div-mul-le-self, le-div-iff-mul-le, div-lt-iff-lt-mul, add-mul, le-of-suc-le-suc}
+use mathlib.Core.List.{List, [], _∷_}
+use native.Mathlib.Nat.{mul-le-mul, mul-assoc, max-le, le-max-right, max-eq-left, div-lt-iff-lt-mul, add-mul}
 use native.Mathlib.Omega.{arith}
-use borrow.Author.Tests.{eqb-true, eqb-false, not-true, leb-true, leb-false}
-use lib.Dec.{T, ltb, leb, eqb, lit≤, lit<, ltb→lt}
+use borrow.Author.Tests.{eqb-true, eqb-false, not-true}
+use lib.Dec.{T, ltb, eqb, lit≤, lit<, ltb→lt}
 use lib.ListN.{length, getD}
-use lib.Pow.{pow-mono, pow-lt}
 use Rattle.layout.specs.declared.Table.{Table}
 use Rattle.layout.specs.declared.Range.{Range}
 use Rattle.layout.specs.declared.Layout.{Layout}
-use Rattle.layout.specs.Layout.{pow2Of, tableOf, based, tableIn, pagesUp, wholeOf, quarterOf, rangesOf, layOut, layoutOf}
-use Rattle.layout.specs.Inner.{All}
+use Rattle.layout.specs.Layout.{pow2Of, tableOf, based, tableIn, pagesUp, wholeOf, quarterOf, layOut}
 use Rattle.layout_laws.specs.Good.{Multiple, Tiles, GoodLayout, Apart, Each, AllApart, GoodRange, Counted, GoodRanges}
 use Rattle.layout.specs.Layout.{Pow}
-use Rattle.layout.proofs.Powers.{raised, raised-le, pow-is}
+use Rattle.layout.proofs.Powers.{raised-le, pow-is}
 use Rattle.layout.proofs.Placing.{all-find}
 use Rattle.layout_laws.proofs.Rows.{by-eq, find-same, find-other}
 use Rattle.layout_laws.proofs.Good.{pow-multiple, bytes-pow, add-multiple, pow-pos-of}

@@ -1,7 +1,7 @@
 -- The layouts of cards: the counts of any reply are such that the laws of layouts hold of them.
-use Prim.Native.Nat.{ℕ, zero, suc, zero-le, _+_, _-_, _*_, _/_, _^_, _≤_, _<_, min, max}
+use Prim.Native.Nat.{ℕ, zero, suc, zero-le, _+_, _-_, _*_, _^_, _≤_, _<_, min}
 use mathlib.Core.Bool.{Bool, true, false}
-use mathlib.Core.Path.{_≡_, refl, ap, sym, subst, _∙_}
+use mathlib.Core.Path.{_≡_, refl, sym, subst, _∙_}
 use mathlib.Core.List.{List, [], _∷_}
 use native.Mathlib.Nat.{le-trans, lt-of-le-of-lt, max-le, min-le-right, mul-le-mul, add-zero, zero-add, add-suc, suc-add}
 use native.Mathlib.Omega.{arith}
@@ -14,16 +14,16 @@ use Rattle.fields.specs.Outcome.{value, pick}
 use Rattle.fields.proofs.Laws.{Bytes}
 use Rattle.bars.specs.declared.Size.{Size}
 use Rattle.reply.specs.declared.DevCap.{DevCap}
-use Rattle.reply.specs.Capability.{Bounds, capabilityOf, devCapOf}
+use Rattle.reply.specs.Capability.{Bounds, capabilityOf}
 use Rattle.reply.proofs.Bounded.{decoded-bounds, accepted-is}
 use Rattle.layout.specs.declared.Layout.{Layout}
 use Rattle.layout.specs.Layout.{pow2Of, tableOf, tablesFrom, sortInto, rowsOf, totalOf, layOut}
-use Rattle.layout.specs.Counts.{baseSqpn, firstFree, firstFreeMtt, eqsOf, countsOf, profileOf}
+use Rattle.layout.specs.Counts.{baseSqpn, firstFreeMtt, countsOf, profileOf}
 use Rattle.layout_laws.specs.Good.{GoodLayout, GoodRanges, Counted}
 use Rattle.layout.specs.Layout.{Pow}
 use Rattle.layout.proofs.Powers.{raised-le}
 use Rattle.layout.proofs.Bounds.{lines-lt}
-use Rattle.layout_laws.proofs.Good.{Sized, accepted, layout-good, good, by-order, pow-pos-of}
+use Rattle.layout_laws.proofs.Good.{Sized, accepted, good, by-order, pow-pos-of}
 use Rattle.layout.proofs.Placing.{total-placed}
 use Rattle.layout_laws.proofs.Rows.{by-eq, total-sorted}
 use Rattle.layout_laws.proofs.Mapped.{mapped}

@@ -1,7 +1,7 @@
 -- Each plan of an opening begins what its course says.
-use Prim.Native.Nat.{ℕ, zero, suc, _+_, _*_, _/_, _-_, _<_, _≤_, _%_, _^_}
+use Prim.Native.Nat.{ℕ, suc, _+_, _*_, _/_, _-_, _<_, _≤_, _%_, _^_}
 use mathlib.Core.Bool.{Bool, true, false}
-use mathlib.Core.List.{List, [], _∷_, _++_}
+use mathlib.Core.List.{List}
 use mathlib.Core.Path.{_≡_, refl, ap, sym, _∙_}
 use native.Mathlib.Numerals.{add-one}
 use native.Mathlib.Omega.{arith}
@@ -11,7 +11,6 @@ use lib.ListN.{length}
 use Rattle.fields.specs.Outcome.{Outcome, value, refused, valueOr, pick}
 use Rattle.dma.specs.Buffers.{pagesFor}
 use Rattle.dma.specs.PageList.{firstBlocks, behind, listedOf, filledAt}
-use Rattle.dma.specs.declared.Buffer.{Buffer}
 use Rattle.dma.specs.declared.Cutter.{Cutter}
 use Rattle.hcr.specs.declared.Post.{Post}
 use Rattle.pci.specs.Script as sc
@@ -31,11 +30,11 @@ use Rattle.command.specs.Machine.{cmdScript, first}
 use Rattle.command.specs.Script.{command}
 use Rattle.command.specs.declared.CmdEnd.{CmdEnd}
 use Rattle.command.specs.declared.CmdResult.{CmdResult}
-use Rattle.reset.specs.Reset.{reset, isGood}
+use Rattle.reset.specs.Reset.{isGood}
 use Rattle.reset.specs.Steps.{resetScript}
 use Rattle.reset.specs.Steps as rs
-use Rattle.buffer.specs.Buffer.{byOutcome, making, allocating}
-use Rattle.buffer.specs.Steps.{makeScript, freeScript, startFree}
+use Rattle.buffer.specs.Buffer.{byOutcome, allocating}
+use Rattle.buffer.specs.Steps.{freeScript, startFree}
 use Rattle.buffer.specs.declared.Fault.{Fault}
 use Rattle.buffer.specs.declared.MakePhase.the-variants as mp
 use Rattle.buffer.specs.declared.Made.{Made}
@@ -47,7 +46,6 @@ use Rattle.tasks.specs.declared.Attributes.the-variants as at
 use Rattle.tasks.specs.Claim.{claiming}
 use Rattle.tasks.specs.declared.Claimed.{Claimed}
 use Rattle.tasks.specs.declared.Claimed.the-variants as l
-use Rattle.uar.specs.Uar.{finding}
 use Rattle.uar.specs.Steps.{started, barScript}
 use Rattle.uar.specs.declared.Found.{Found}
 use Rattle.uar.specs.declared.Found.the-variants as u
@@ -56,12 +54,11 @@ use Rattle.work.specs.declared.Task.the-variants as t
 use Rattle.work.specs.declared.End.{End}
 use Rattle.work.specs.declared.End.the-variants as e
 use Rattle.session.specs.Failures.{brokenBy, failureOf, faultOf, immediateOf, madeIn, needsReset}
-use Rattle.session.specs.Session.{session, starts, bookkeeps, informs, sendsOf, tookOf, planned, immOf, withInOf, withOutOf, catasFor}
-use Rattle.session.specs.Course.{Course, ret, Here, here, left, Box, neither, inbox, outbox, zeroed, run, sends, Rest, restOf}
+use Rattle.session.specs.Session.{starts, bookkeeps, informs, sendsOf, tookOf, planned, immOf, withInOf, withOutOf, catasFor}
+use Rattle.session.specs.Course.{Course, ret, Here, left, neither, inbox, outbox, zeroed, run, sends, Rest}
 use Rattle.session.proofs.Courses.{run-turned, run-same}
 use Rattle.session.specs.declared.Hold.{Hold}
 use Rattle.session.specs.declared.Hold.the-variants as o
-use Rattle.session.specs.declared.Top.{Top}
 use Rattle.session.specs.declared.Books.{Books}
 use Rattle.session.specs.declared.Info.{Info}
 use Rattle.session.specs.declared.Area.{Area}
@@ -70,7 +67,6 @@ use Rattle.session.specs.declared.Prepare.{Prepare}
 use Rattle.session.specs.declared.Prepare.the-variants as p
 use Rattle.session.specs.declared.Boot.{Boot}
 use Rattle.session.specs.declared.Boot.the-variants as k
-use Rattle.session.specs.declared.Stage.{Stage}
 use Rattle.session.specs.declared.Stage.the-variants as g
 use Rattle.session.specs.declared.Failure.the-variants as f
 use Rattle.session.specs.declared.Closing.the-variants as c
@@ -78,13 +74,13 @@ use Rattle.session.specs.declared.Fill.{Fill}
 use Rattle.session.specs.declared.Fill.the-variants as w
 use Rattle.session.specs.declared.Session.{Session}
 use Rattle.session.specs.declared.Planned.{Planned}
-use Rattle.closing_plan.specs.Closing.{isDone, emptied, inHold, parted, restored, freed}
-use Rattle.closing_plan.specs.Plan.{cmdIn, resetIn, resetsOf, restorePlan, releasePlan, stopPlan, tookBooks, onHold, planHere}
+use Rattle.closing_plan.specs.Closing.{isDone, emptied, inHold, parted, freed}
+use Rattle.closing_plan.specs.Plan.{cmdIn, resetIn, tookBooks, onHold}
 use Rattle.closing_plan.proofs.Lands as z
 use Rattle.client_plan.specs.Plan.{clientCourse}
 use Rattle.opening_plan.specs.Values.{refusalOf, fwFailureOf, withToggle, withCatas, withOriginal, withInbox, withOutbox, nowStarted, layoutIn, rangeAt, opFor, enters, cutterFor, withUar, withRevision, withCap, withFunc, withPort}
-use Rattle.opening_plan.specs.Opening.{fails, failsBy, onGood, onValue, asking, holds, opened, queryAdapter, queryFunc, initHca, mapping, onMade, mapIcm, areaFor, setIcmSize, layingOut, queryPorts, portsOf, queryDevCap, modStat, runFw, fwReply, queryFw, look, makeOutbox, giveInbox, makeInbox, onFound, findUar, firstReset, onClaimed, claim, onEnabled, enable, opening}
-use Rattle.opening_plan.specs.Plan.{attrIn, claimIn, barIn, toggleIn, withFailure, failPlan, givesUp, partPlan, failByPlan, openedPlan, askPlan, givePlan, immPlan, funcPlan, makePlan, rangePlan, nextRange, mappedPlan, mapPlan, areaPlan, layoutPlan, portPlan, goodPlan, fwReplied, capReplied, portReplied, funcReplied, fwPlan, statPlan, bootPlan, boxPlan, attrPlan, claimPlan, findsOf, resetPlan, barPlan, inboxPlan, givesInbox, outboxPlan, preparePlan, openPlan, lists, nextOf, afterBoot, bootCourse, afterPrepare, boxOf, prepareCourse}
+use Rattle.opening_plan.specs.Opening.{fails, failsBy, onGood, onValue, holds, opened, queryAdapter, queryFunc, initHca, mapping, onMade, mapIcm, areaFor, setIcmSize, layingOut, queryPorts, portsOf, queryDevCap, modStat, runFw, fwReply, queryFw, look, makeOutbox, giveInbox, makeInbox, onFound, findUar, firstReset, onClaimed, claim, onEnabled, enable}
+use Rattle.opening_plan.specs.Plan.{attrIn, claimIn, barIn, toggleIn, withFailure, failPlan, givesUp, partPlan, failByPlan, askPlan, givePlan, funcPlan, makePlan, rangePlan, nextRange, mappedPlan, mapPlan, areaPlan, layoutPlan, portPlan, fwReplied, capReplied, portReplied, funcReplied, bootPlan, attrPlan, claimPlan, resetPlan, barPlan, inboxPlan, outboxPlan, preparePlan, openPlan, lists, nextOf, afterBoot, bootCourse, afterPrepare, prepareCourse}
 use Rattle.opening_plan.proofs.Cutting.{mapping-none, mapping-any, mapping-suc, onward-same, behind-less, positive}
 
 -- what the session means once a mailbox is written

@@ -1,11 +1,9 @@
 -- A buffer's making, begun or refused before any question.
 use Prim.Native.Nat.{ℕ, _*_, _≤_, _<_, _^_, _-_}
-use mathlib.Core.Bool.{Bool, true, false}
 use mathlib.Core.Path.{_≡_, refl}
 use native.Mathlib.Omega.{arith}
 use borrow.Author.Tests.{lt-leb}
-use lib.Dec.{leb}
-use Rattle.fields.specs.Outcome.{Outcome, value, refused, pick}
+use Rattle.fields.specs.Outcome.{Outcome, value, refused}
 use Rattle.dma.specs.Buffers.{pagesFor}
 use Rattle.pci.specs.declared.Refusal.the-variants as x
 use Rattle.buffer.specs.Buffer.{byOutcome}

@@ -2,8 +2,7 @@
 -- port at revision 3, layout, SET_ICM_SIZE, MAP_ICM_AUX, 14 MAP_ICM, INIT_HCA, QUERY_FUNC if num_sys_eqs is not 0, QUERY_ADAPTER (any failure passed over)."
 -- Before it, as the Rust's `open` and `start`: attributes, claim, reset, the UAR BAR, both mailboxes, the first look at the status dword. It is written from the
 -- last step to the first. "An opening fails by the first other failure, returned after closing has run, with closing's result beside it."
-use Prim.Native.Nat.{ℕ, zero, suc, _*_, _-_, _%_, _^_}
-use mathlib.Core.Bool.{Bool}
+use Prim.Native.Nat.{ℕ, zero, suc, _*_, _%_, _^_}
 use mathlib.Core.List.{List}
 use lib.Dec.{eqb}
 use lib.ListN.{length}
@@ -16,9 +15,7 @@ use Rattle.pci.specs.declared.Refusal.{Refusal}
 use Rattle.pci.specs.declared.Refusal.the-variants as x
 use Rattle.reply.specs.Capability.{capabilityOf}
 use Rattle.reply.specs.Replies.{queryFwOf, fwHeld, queryPortOf, queryFuncOf}
-use Rattle.reply.specs.declared.FwInfo.{FwInfo}
 use Rattle.layout.specs.Counts.{profileOf}
-use Rattle.layout.specs.declared.Layout.{Layout}
 use Rattle.init.specs.Init.{filledBy, fieldsOf, initOf, modStatCfg}
 use Rattle.command.specs.declared.CmdResult.{CmdResult}
 use Rattle.reset.specs.Reset.{reset, isGood}
@@ -37,8 +34,8 @@ use Rattle.uar.specs.declared.Found.{Found}
 use Rattle.uar.specs.declared.Found.the-variants as u
 use Rattle.work.specs.Work.{looking}
 use Rattle.session.specs.Failures.{brokenBy, failureOf, faultOf, immediateOf, needsReset}
-use Rattle.session.specs.Session.{noBooks, noInfo, wired, broken, immOf, withInOf, withOutOf}
-use Rattle.session.specs.Course.{Course, ret, Here, here, left, Box, inbox, outbox, zeroed, run, task, sends, Rest, atRest}
+use Rattle.session.specs.Session.{noBooks, noInfo, immOf, withInOf, withOutOf}
+use Rattle.session.specs.Course.{Course, ret, Here, here, left, inbox, outbox, zeroed, run, task, sends, Rest, atRest}
 use Rattle.session.specs.declared.Books.{Books}
 use Rattle.session.specs.declared.Info.{Info}
 use Rattle.session.specs.declared.Area.{Area}

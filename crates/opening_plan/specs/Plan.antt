@@ -1,14 +1,10 @@
 -- The plan of an opening: what follows when a task has ended, as a function on the session and on the outbox as it is lent then.
-use Prim.Native.Nat.{ℕ, zero, suc, _+_, _*_, _-_, _%_, _^_}
-use mathlib.Core.Bool.{Bool, true, false}
+use Prim.Native.Nat.{ℕ, suc, _+_, _*_, _-_, _%_, _^_}
+use mathlib.Core.Bool.{Bool, true}
 use mathlib.Core.List.{List}
 use lib.Dec.{eqb, ltb}
-use lib.ListN.{length}
 use Rattle.fields.specs.Outcome.{Outcome, value, refused, pick}
-use Rattle.bars.specs.declared.Pick.{Pick}
 use Rattle.dma.specs.Buffers.{pagesFor}
-use Rattle.dma.specs.PageList.{listedOf, filledAt}
-use Rattle.dma.specs.declared.Buffer.{Buffer}
 use Rattle.dma.specs.declared.Cutter.{Cutter}
 use Rattle.dma.specs.declared.Listed.{Listed}
 use Rattle.pci.specs.declared.Refusal.{Refusal}
@@ -21,7 +17,6 @@ use Rattle.reply.specs.declared.FuncInfo.{FuncInfo}
 use Rattle.reply.specs.declared.PortInfo.{PortInfo}
 use Rattle.layout.specs.Counts.{profileOf}
 use Rattle.layout.specs.declared.Layout.{Layout}
-use Rattle.init.specs.Init.{filledBy, fieldsOf, initOf, modStatCfg}
 use Rattle.command.specs.declared.CmdEnd.{CmdEnd}
 use Rattle.command.specs.declared.CmdResult.{CmdResult}
 use Rattle.reset.specs.Reset.{isGood}
@@ -29,7 +24,6 @@ use Rattle.reset.specs.declared.ResetEnd.{ResetEnd}
 use Rattle.buffer.specs.Buffer.{byOutcome}
 use Rattle.buffer.specs.Steps.{startFree}
 use Rattle.buffer.specs.declared.Fault.{Fault}
-use Rattle.buffer.specs.declared.Fault.the-variants as q
 use Rattle.buffer.specs.declared.Made.{Made}
 use Rattle.buffer.specs.declared.Made.the-variants as m
 use Rattle.buffer.specs.declared.MakePhase.the-variants as mp
@@ -50,8 +44,7 @@ use Rattle.work.specs.declared.End.{End}
 use Rattle.work.specs.declared.End.the-variants as e
 use Rattle.session.specs.Failures.{brokenBy, failureOf, faultOf, immediateOf, madeIn, needsReset}
 use Rattle.session.specs.Session.{session, starts, bookkeeps, informs, sendsOf, tookOf, planned, immOf, withInOf, withOutOf}
-use Rattle.session.specs.Course.{Course, ret, Here, here, left, Box, neither, inbox, outbox, zeroed, run, Rest, atRest}
-use Rattle.session.specs.declared.Hold.the-variants as o
+use Rattle.session.specs.Course.{Course, Here, left, Box, neither, inbox, outbox, run, Rest}
 use Rattle.session.specs.declared.Top.{Top}
 use Rattle.session.specs.declared.Books.{Books}
 use Rattle.session.specs.declared.Info.{Info}
@@ -64,7 +57,6 @@ use Rattle.session.specs.declared.Boot.the-variants as k
 use Rattle.session.specs.declared.Gave.the-variants as v
 use Rattle.session.specs.declared.Stage.{Stage}
 use Rattle.session.specs.declared.Stage.the-variants as g
-use Rattle.session.specs.declared.Failure.{Failure}
 use Rattle.session.specs.declared.Failure.the-variants as f
 use Rattle.session.specs.declared.Closing.the-variants as c
 use Rattle.session.specs.declared.Fill.{Fill}
@@ -73,8 +65,8 @@ use Rattle.session.specs.declared.Session.{Session}
 use Rattle.session.specs.declared.Planned.{Planned}
 use Rattle.closing_plan.specs.Closing.{isDone, emptied, parted}
 use Rattle.closing_plan.specs.Plan.{cmdIn, resetIn, resetsOf, restorePlan, releasePlan, stopPlan, tookBooks, onHold}
-use Rattle.opening_plan.specs.Values.{refusalOf, fwFailureOf, withToggle, withCatas, withOriginal, withInbox, withOutbox, nowStarted, layoutIn, rangeAt, opFor, enters, cutterFor, withUar, withRevision, withCap, withFunc, withPort}
-use Rattle.opening_plan.specs.Opening.{fails, failsBy, onGood, onValue, holds, opened, queryAdapter, queryFunc, initHca, mapping, onMade, mapIcm, areaFor, layingOut, queryPorts, portsOf, queryDevCap, modStat, runFw, fwReply, queryFw, look, makeOutbox, giveInbox, makeInbox, onFound, findUar, onClaimed, onEnabled}
+use Rattle.opening_plan.specs.Values.{refusalOf, fwFailureOf, withToggle, withCatas, withOriginal, withInbox, withOutbox, nowStarted, rangeAt, opFor, enters, cutterFor, withUar, withRevision, withCap, withFunc, withPort}
+use Rattle.opening_plan.specs.Opening.{fails, failsBy, onGood, onValue, opened, queryAdapter, queryFunc, mapping, onMade, mapIcm, areaFor, queryPorts, portsOf, queryDevCap, modStat, runFw, fwReply, queryFw, look, makeOutbox, giveInbox, onFound, findUar, onClaimed, onEnabled}
 
 -- HOW A TASK HAS ENDED; a task of the plan ends in its own kind, any other counts as failed
 abbrev pub attrIn : End → Attributes

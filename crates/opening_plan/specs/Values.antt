@@ -1,10 +1,10 @@
 -- What an opening notes as it goes: in the books, and of what the card says.
-use Prim.Native.Nat.{ℕ, _+_, _*_}
-use mathlib.Core.Bool.{Bool, true, false}
+use Prim.Native.Nat.{ℕ, _+_}
+use mathlib.Core.Bool.{Bool, true}
 use mathlib.Core.List.{List, [], _∷_}
 use lib.Dec.{eqb, ltb}
 use lib.ListN.{getD, set}
-use Rattle.fields.specs.Outcome.{Outcome, value, refused, valueOr, pick}
+use Rattle.fields.specs.Outcome.{valueOr, pick}
 use Rattle.bars.specs.declared.Pick.{Pick}
 use Rattle.dma.specs.declared.Buffer.{Buffer}
 use Rattle.dma.specs.declared.Virt.{Virt}
@@ -23,12 +23,9 @@ use Rattle.layout.specs.declared.Range.{Range}
 use Rattle.command.specs.declared.CmdResult.{CmdResult}
 use Rattle.command.specs.declared.CmdResult.the-variants as r
 use Rattle.command.specs.declared.Catas.the-variants as k
-use Rattle.buffer.specs.declared.Fault.{Fault}
-use Rattle.buffer.specs.declared.Fault.the-variants as f
 use Rattle.session.specs.Session.{books, wired, holding, listing, bytesIn}
 use Rattle.session.specs.declared.Hold.the-variants as o
 use Rattle.session.specs.declared.Icm.{Icm}
-use Rattle.session.specs.declared.Wire.{Wire}
 use Rattle.session.specs.declared.Lists.{Lists}
 use Rattle.session.specs.declared.Books.{Books}
 use Rattle.session.specs.declared.Info.{Info}

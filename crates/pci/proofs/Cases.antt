@@ -6,7 +6,7 @@ use mathlib.Core.Path.{_≡_}
 use Rattle.hcr.specs.Words.{swapOf}
 use Rattle.pci.specs.Views.{wordOf, dwordOf, qwordOf, doneOf, toldOf, grantedOf, mappedOf, listOf}
 use Rattle.pci.specs.Script.{Script, Bus, good, failed, Spot, replyOf, configRead16, configRead32, read, attributes, unmap, stall, allocate, mapped, resource}
-use Rattle.pci.specs.Machine.{Next, more, ended, Right, rest}
+use Rattle.pci.specs.Machine.{Next, more, Right, rest}
 use Rattle.pci.specs.declared.Question.{Question}
 use Rattle.pci.specs.declared.Answer.{Answer}
 use Rattle.pci.specs.declared.Answer.the-variants as a

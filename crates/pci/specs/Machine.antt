@@ -4,7 +4,7 @@ use mathlib.Core.List.{List}
 use mathlib.Core.Option.{Option, some, none}
 use mathlib.Core.Path.{_≡_}
 use Prim.Native.Nat.{ℕ}
-use Rattle.pci.specs.Script.{Script, ret, ask, Ask, Reply, shown, replyOf}
+use Rattle.pci.specs.Script.{Script, ret, ask, shown, replyOf}
 use Rattle.pci.specs.declared.Question.{Question}
 use Rattle.pci.specs.declared.Answer.{Answer}
 

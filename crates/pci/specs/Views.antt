@@ -1,5 +1,4 @@
 -- What an answer says to a question of each kind.
-use Prim.Native.Nat.{ℕ}
 use Rattle.pci.specs.declared.Answer.{Answer}
 use Rattle.pci.specs.declared.Answer.the-variants as a
 use Rattle.pci.specs.declared.WordReply.{WordReply}

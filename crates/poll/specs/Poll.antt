@@ -1,7 +1,7 @@
 -- An answer while a command is polled, on the bytes of the session. Word 0 is 8 where the task is a command; word 1 is 4 where its status is read while waiting, and 5
 -- where a stall is under way; word 8 has its toggle and word 9 its stalls (crates/words_task/specs/Coding.antt).
 use Prim.Native.Nat.{ℕ, _+_}
-use mathlib.Core.Bool.{Bool, true, false, _&&_, not}
+use mathlib.Core.Bool.{Bool, _&&_, not}
 use mathlib.Core.List.{List, [], _∷_}
 use lib.Dec.{eqb, ltb, leb}
 use lib.ListN.{length, replicate}

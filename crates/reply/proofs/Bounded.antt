@@ -1,10 +1,9 @@
 -- How large the fields of a capability reply can be.
-use Prim.Native.Nat.{ℕ, zero, suc, _+_, _*_, _/_, _%_, _^_, _≤_, _<_}
-use mathlib.Core.Bool.{Bool, not}
+use Prim.Native.Nat.{ℕ, zero, suc, _^_, _≤_, _<_}
+use mathlib.Core.Bool.{not}
 use mathlib.Core.Path.{_≡_, refl, sym}
 use mathlib.Core.List.{List, [], _∷_}
 use native.Mathlib.Nat.{mod-lt, div-lt-iff-lt-mul, le-of-suc-le-suc}
-use native.Mathlib.Omega.{arith}
 use lib.Dec.{lit<, ltb}
 use lib.ListN.{length, getD, set, length-set, replicate}
 use lib.Pow.{pow-mono}
@@ -16,7 +15,7 @@ use Rattle.fields.proofs.Outcomes.{past, same-value}
 use Rattle.bars.specs.declared.Size.{Size}
 use Rattle.reply.specs.declared.Place.{Place}
 use Rattle.reply.specs.declared.DevCap.{DevCap}
-use Rattle.reply.specs.Capability.{readInto, entriesOf, devCapOf, capabilityOf, low, high, Bounds, minPage, portsIn, oneOrTwo, uarField, uarArea, aboveSize}
+use Rattle.reply.specs.Capability.{readInto, devCapOf, capabilityOf, low, high, Bounds, minPage, portsIn, oneOrTwo, uarField, uarArea, aboveSize}
 
 -- each entry is of 16 bits
 abbrev Below : List ℕ → Type 0

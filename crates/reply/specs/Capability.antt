@@ -1,12 +1,12 @@
 -- The capability reply: the fields that the Rust's `query_dev_cap` reads, at their offsets, and the tests on it, 12 to 15, in their order.
 use Prim.Native.Nat.{ℕ, _+_, _*_, _/_, _%_, _^_, _≤_, _<_, max}
-use mathlib.Core.Bool.{Bool, true, false, _||_, not}
+use mathlib.Core.Bool.{Bool, false, _||_, not}
 use mathlib.Core.Path.{_≡_}
 use mathlib.Core.List.{List, [], _∷_}
 use lib.ListN.{length, getD, set, replicate}
 use lib.Dec.{ltb, eqb}
 use Rattle.fields.specs.Fields.{be}
-use Rattle.fields.specs.Outcome.{Outcome, value, refused, valueOr, pick}
+use Rattle.fields.specs.Outcome.{Outcome, value, refused, pick}
 use Rattle.bars.specs.declared.Size.{Size}
 use Rattle.bars.specs.declared.Size.the-variants.{Known, Unknown}
 use Rattle.reply.specs.declared.Place.{Place}

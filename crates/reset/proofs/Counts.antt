@@ -6,9 +6,7 @@ use lib.Dec.{eqb}
 use Rattle.fields.specs.Outcome.{pick}
 use Rattle.reset.specs.Steps.{walkMove, heldMove, goneOn, backNext, savingNext}
 use Rattle.reset.specs.declared.Control.the-variants as c
-use Rattle.reset.specs.declared.Phase.{Phase}
 use Rattle.reset.specs.declared.Phase.the-variants as p
-use Rattle.reset.specs.declared.Move.{Move}
 use Rattle.reset.specs.declared.Move.the-variants as v
 
 pred : (n : ℕ) → n ≡ suc n - 1

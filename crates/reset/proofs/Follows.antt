@@ -1,20 +1,17 @@
 -- Every state of the reset machine does what is left of the script.
-use Prim.Native.Nat.{ℕ, zero, suc, _+_, _%_, _/_}
+use Prim.Native.Nat.{ℕ, zero, suc, _%_, _/_}
 use mathlib.Core.Bool.{Bool, true, false, not}
 use mathlib.Core.List.{List}
-use mathlib.Core.Option.{Option, some, none}
 use mathlib.Core.Path.{_≡_, refl}
 use lib.Dec.{eqb}
 use Rattle.fields.specs.Outcome.{pick}
 use Rattle.hcr.specs.Words.{swapOf}
-use Rattle.pci.specs.Script.{Script, ret, ask, Bus, good, failed, stall}
+use Rattle.pci.specs.Script.{Script}
 use Rattle.pci.specs.Machine.{Next, rest, Follows}
 use Rattle.pci.proofs.Cases.{word-case, dword-case, register-case, done-case, told-case}
-use Rattle.pci.specs.declared.WordReply.{WordReply}
-use Rattle.reset.specs.Reset.{pointer, either, restore, restoreControl, vendor, isThere, afterwards, settle, written, semaphore, taking, linkControl, control, header, walk, capability, save}
-use Rattle.reset.specs.Steps.{walkMove, savingMove, pointerMove, headerMove, deviceMove, linkMove, heldMove, semaphoreMove, holdMove, writeMove, settleMove, restoring, vendorMove, goneMove, backDeviceMove, backLinkMove, backMove, movedOf, nextOf, resetAsks, resetStep, resetScript, ResetFollows}
+use Rattle.reset.specs.Reset.{pointer, restore, restoreControl, vendor, semaphore, control, walk, save}
+use Rattle.reset.specs.Steps.{walkMove, savingMove, pointerMove, headerMove, deviceMove, linkMove, semaphoreMove, holdMove, writeMove, settleMove, restoring, vendorMove, goneMove, backDeviceMove, backLinkMove, backMove, movedOf, nextOf, resetAsks, resetStep, resetScript, ResetFollows}
 use Rattle.reset.specs.declared.ResetEnd.{ResetEnd}
-use Rattle.reset.specs.declared.ResetEnd.the-variants as e
 use Rattle.reset.specs.declared.Control.{Control}
 use Rattle.reset.specs.declared.Control.the-variants as c
 use Rattle.reset.specs.declared.Phase.{Phase}

@@ -3,11 +3,11 @@ use Prim.Native.Nat.{ℕ, zero, suc, _/_, _%_}
 use mathlib.Core.Bool.{Bool, true, false}
 use mathlib.Core.List.{List}
 use mathlib.Core.Option.{Option, some, none}
-use mathlib.Core.Path.{_≡_, refl}
+use mathlib.Core.Path.{refl}
 use lib.ListN.{set}
 use lib.Dec.{eqb}
 use Rattle.fields.specs.Outcome.{pick}
-use Rattle.pci.specs.Script.{Script, ret, ask, Bus, good, failed, write}
+use Rattle.pci.specs.Script.{Script, ret, Bus, good, failed, write}
 use Rattle.reset.specs.Reset.{either, pointer, dwordAt, settle, written, semaphore, taking, control, walk, save}
 use Rattle.reset.specs.Taken.{isTaken, GoodIfTaken, ResetTaken}
 use Rattle.reset.specs.declared.ResetEnd.{ResetEnd}

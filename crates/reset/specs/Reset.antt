@@ -1,7 +1,7 @@
 -- The reset, as a script. Document 01, fw: "Reset: at most 10,001 semaphore and 2,000 vendor reads", and the rest as the Rust's `reset` has it.
 use Prim.Native.Nat.{ℕ, zero, suc, _+_, _-_, _*_, _/_, _%_}
-use mathlib.Core.Bool.{Bool, true, false, not}
-use mathlib.Core.List.{List, [], _∷_}
+use mathlib.Core.Bool.{Bool, false, not}
+use mathlib.Core.List.{List, []}
 use mathlib.Core.Option.{Option, some, none}
 use lib.ListN.{getD, set, replicate}
 use lib.Dec.{eqb, ltb}

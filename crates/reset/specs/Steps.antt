@@ -1,9 +1,8 @@
 -- The reset as steps by value: the question of each state, what an answer makes of it, and the script that is left.
-use Prim.Native.Nat.{ℕ, zero, suc, _+_, _-_, _*_, _/_, _%_}
-use mathlib.Core.Bool.{Bool, true, false, not}
+use Prim.Native.Nat.{ℕ, zero, suc, _+_, _*_, _/_, _%_}
+use mathlib.Core.Bool.{not}
 use mathlib.Core.List.{List}
-use mathlib.Core.Option.{Option, some, none}
-use mathlib.Core.Path.{_≡_}
+use mathlib.Core.Option.{some}
 use lib.ListN.{getD, set, replicate}
 use lib.Dec.{eqb}
 use Rattle.fields.specs.Outcome.{pick}
@@ -23,7 +22,7 @@ use Rattle.pci.specs.declared.DoneReply.{DoneReply}
 use Rattle.pci.specs.declared.DoneReply.the-variants as o
 use Rattle.pci.specs.declared.ToldReply.{ToldReply}
 use Rattle.pci.specs.declared.ToldReply.the-variants as t
-use Rattle.reset.specs.Reset.{dwordAt, restoredAt, pointer, restore, restoreControl, vendor, afterwards, settle, written, semaphore, taking, linkControl, control, header, walk, capability, save}
+use Rattle.reset.specs.Reset.{dwordAt, restoredAt, pointer, restore, restoreControl, vendor, settle, written, semaphore, linkControl, control, header, walk, capability, save}
 use Rattle.reset.specs.declared.ResetEnd.{ResetEnd}
 use Rattle.reset.specs.declared.ResetEnd.the-variants as e
 use Rattle.reset.specs.declared.Control.{Control}

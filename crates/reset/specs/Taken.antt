@@ -1,7 +1,6 @@
 -- What a good end says. Document 01, card rules: "A bus call reported good was taken" and "A reset taken drops everything": a reset ends well only after the
 -- write of 1 at 0xf0010 was reported good.
-use Prim.Native.Nat.{ℕ}
-use mathlib.Core.Bool.{Bool, true, false, _&&_}
+use mathlib.Core.Bool.{Bool, false, _&&_}
 use mathlib.Core.Path.{_≡_}
 use lib.Dec.{eqb}
 use Rattle.fields.specs.Outcome.{pick}

@@ -1,5 +1,4 @@
 -- A task whose end is turned, in a course.
-use Prim.Native.Nat.{ℕ}
 use mathlib.Core.Path.{_≡_, refl, ap, fun-ext}
 use Rattle.pci.specs.Script.{Script, _>>=_}
 use Rattle.pci.specs.Script as s

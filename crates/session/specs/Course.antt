@@ -1,7 +1,6 @@
 -- The course of a call: a tree of questions as a script is, which also says what the mailboxes and the undo list hold while each question is open. With every
 -- reply come the outbox and the newest undo record as they are lent then: "meanwhile only the shell (outbox) and the caller (undo list) write."
 use Prim.Native.Nat.{ℕ}
-use mathlib.Core.Bool.{Bool, true, false}
 use mathlib.Core.List.{List}
 use lib.ListN.{length, replicate}
 use Rattle.pci.specs.Script.{Script, Ask, Reply, Bus, good, failed, configRead16, configRead32, configWrite16, configWrite32, read, write, attributes, resource, stall, allocate, mapped, unmap, free, fence}

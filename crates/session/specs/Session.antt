@@ -5,14 +5,12 @@ use mathlib.Core.List.{List}
 use lib.Dec.{ltb}
 use lib.ListN.{getD, set, replicate}
 use Rattle.fields.specs.Outcome.{pick}
-use Rattle.bars.specs.declared.Pick.{Pick}
 use Rattle.bars.specs.declared.Size.the-variants as z
 use Rattle.bars.specs.declared.How.the-variants as w
 use Rattle.dma.specs.declared.Buffer.{Buffer}
 use Rattle.hcr.specs.declared.Post.{Post}
 use Rattle.reply.specs.Capability.{noCaps}
 use Rattle.reply.specs.Replies.{noPort}
-use Rattle.reply.specs.declared.FuncInfo.{FuncInfo}
 use Rattle.command.specs.Machine.{first}
 use Rattle.command.specs.declared.Catas.{Catas}
 use Rattle.command.specs.declared.Catas.the-variants as k

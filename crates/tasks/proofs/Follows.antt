@@ -1,5 +1,4 @@
 -- Every state of the small tasks does what is left of its script.
-use Prim.Native.Nat.{ℕ}
 use mathlib.Core.Bool.{Bool, true, false}
 use mathlib.Core.Path.{_≡_, refl}
 use lib.Dec.{eqb}

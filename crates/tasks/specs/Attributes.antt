@@ -1,7 +1,6 @@
 -- Attributes, as a script and as steps. Document 01: "1 attributes not read or enabled"; the Rust's `open`: get, supported (a failure counts as 0), enable.
 use Prim.Native.Nat.{ℕ}
 use mathlib.Core.List.{List, []}
-use mathlib.Core.Path.{_≡_}
 use Rattle.fields.specs.Outcome.{Outcome, value, refused, pick}
 use Rattle.hcr.specs.Words.{bit}
 use Rattle.pci.specs.Views.{qwordOf}

@@ -1,7 +1,6 @@
 -- The claim, as a script and as steps. Document 01: "2 owner register unreadable or not 0"; the Rust's `claim`: INTx is disabled, then the owner read once.
 use Prim.Native.Nat.{ℕ, _+_}
 use mathlib.Core.List.{List, []}
-use mathlib.Core.Path.{_≡_}
 use lib.Dec.{eqb}
 use Rattle.fields.specs.Outcome.{Outcome, value, refused, pick}
 use Rattle.hcr.specs.Words.{bit, swapOf}

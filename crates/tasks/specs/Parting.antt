@@ -1,7 +1,6 @@
 -- Release, restore, and the tail of quiesce, as scripts and as the steps of one machine. The Rust's `release`, `restore` and `quiesce`; no failure is refused.
 use Prim.Native.Nat.{ℕ, _-_}
 use mathlib.Core.List.{List}
-use mathlib.Core.Path.{_≡_}
 use Rattle.fields.specs.Outcome.{pick}
 use Rattle.hcr.specs.Words.{bit, swapOf}
 use Rattle.pci.specs.Views.{wordOf, qwordOf, doneOf, toldOf}

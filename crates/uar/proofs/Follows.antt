@@ -1,8 +1,8 @@
 -- Every state of the search does what is left of the script.
 use Prim.Native.Nat.{ℕ, zero, suc, _-_}
 use mathlib.Core.Bool.{Bool, true, false}
-use mathlib.Core.List.{List, [], _∷_}
-use mathlib.Core.Path.{_≡_, refl, ap, sym}
+use mathlib.Core.List.{List, _∷_}
+use mathlib.Core.Path.{_≡_, refl, ap}
 use native.Mathlib.Omega.{arith}
 use lib.Dec.{eqb}
 use Rattle.fields.specs.Outcome.{pick}
@@ -19,7 +19,7 @@ use Rattle.bars.specs.declared.Next.{Next}
 use Rattle.pci.specs.Script.{Script}
 use Rattle.pci.specs.Machine as m
 use Rattle.pci.proofs.Cases.{dword-case, list-case}
-use Rattle.uar.specs.Uar.{rangeFrom, other, scan, judging, second, choosing, reading, finding}
+use Rattle.uar.specs.Uar.{rangeFrom, other, scan, judging, second, reading, finding}
 use Rattle.uar.specs.Steps.{started, readMove, ledOf, choiceMove, movedOf, nextOf, choiceScript, barAsks, barStep, barScript, BarFollows}
 use Rattle.uar.specs.declared.Found.{Found}
 use Rattle.uar.specs.declared.BarPhase.{BarPhase}

@@ -1,13 +1,11 @@
 -- The search as steps by value: the question of each state, what an answer makes of it, and the script that is left.
 use Prim.Native.Nat.{ℕ, zero, suc, _+_, _*_}
 use mathlib.Core.List.{List}
-use mathlib.Core.Path.{_≡_}
 use lib.ListN.{set, replicate}
 use Rattle.fields.specs.Outcome.{Outcome, value, refused}
 use Rattle.bars.specs.Bars.{resourceAt}
 use Rattle.bars.specs.Choose.{othersFrom}
 use Rattle.bars.specs.Steps.{settledOf, stepOf, chooseAt}
-use Rattle.bars.specs.declared.BarRange.{BarRange}
 use Rattle.bars.specs.declared.BarRange.the-variants as b
 use Rattle.bars.specs.declared.Asking.{Asking}
 use Rattle.bars.specs.declared.Asking.the-variants as k

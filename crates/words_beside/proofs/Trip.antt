@@ -1,13 +1,11 @@
 -- What was put into words is read back from them.
-use Prim.Native.Nat.{ℕ, _+_, _%_, _^_, _<_}
+use Prim.Native.Nat.{_<_}
 use mathlib.Core.Path.{_≡_, refl, ap}
-use mathlib.Core.List.{List, [], _∷_}
 use native.Mathlib.Nat.{mod-eq-of-lt}
 use native.Mathlib.Omega.{arith}
-use lib.ListN.{length}
 use lib.Dec.{lit<}
-use Rattle.words.specs.Words.{at, bitOf, cut}
-use Rattle.words.proofs.Laws.{Words, words-at, bit-back, bit-small, cut-back}
+use Rattle.words.specs.Words.{at, cut}
+use Rattle.words.proofs.Laws.{Words, words-at, cut-back}
 use Rattle.words_beside.specs.Coding.{resetPhaseWords, resetPhaseOf, controlWords, controlOf, resetWords, resetOf, rangeWords, rangeOf, candidateWords, candidateOf, askingWords, askingOf, choiceWords, choiceOf, barPhaseWords, barPhaseOf, findWords, findOf}
 use Rattle.words_beside.specs.Fits.{ResetPhaseFits, ControlFits, ResetFits, RangeFits, CandidateFits, AskingFits, ChoiceFits, BarPhaseFits, FindFits}
 use Rattle.reset.specs.declared.Phase.{Phase}

@@ -1,15 +1,12 @@
 -- What was put into words is read back from them.
-use Prim.Native.Nat.{ℕ, _+_, _%_, _^_, _<_}
+use Prim.Native.Nat.{_<_}
 use mathlib.Core.Path.{_≡_, refl, ap}
-use mathlib.Core.List.{List, [], _∷_}
 use native.Mathlib.Nat.{mod-eq-of-lt}
 use native.Mathlib.Omega.{arith}
-use lib.ListN.{length}
 use lib.Dec.{lit<}
-use Rattle.words.specs.Words.{at, bitOf, cut}
-use Rattle.words.proofs.Laws.{Words, words-at, bit-back, bit-small, cut-back}
-use Rattle.words_task.specs.Coding.{catasWords, catasOf}
-use Rattle.words_task.specs.Fits.{CatasFits}
+use Rattle.words.specs.Words.{at}
+use Rattle.words.proofs.Laws.{Words, words-at, bit-back, bit-small}
+use Rattle.words_task.specs.Coding.{catasWords}
 use Rattle.words_task.proofs.Trip.{catas-back, catas-small}
 use Rattle.words_books.specs.Coding.{refusalWords, refusalOf, failureWords, failureOf, closingWords, closingOf, bufferWords, bufferOf, holdWords, holdOf, heldWords, heldOf, wireWords, wireOf, ledgerWords, ledgerOf}
 use Rattle.words_books.specs.Fits.{RefusalFits, FailureFits, ClosingFits, BufferFits, HoldFits, HeldFits, WireFits, LedgerFits}

@@ -1,8 +1,5 @@
 -- Each number is one of its type, and each array has its length.
-use Prim.Native.Nat.{ℕ, _^_, _<_}
-use mathlib.Core.Path.{_≡_}
-use lib.ListN.{length}
-use Rattle.words.specs.Words.{Below}
+use Prim.Native.Nat.{_^_, _<_}
 use Rattle.words_task.specs.Fits.{CatasFits}
 use Rattle.pci.specs.declared.Refusal.{Refusal}
 use Rattle.pci.specs.declared.Refusal.the-variants as rv

@@ -1,12 +1,10 @@
 -- What was put into words is read back from them.
-use Prim.Native.Nat.{ℕ, _+_, _%_, _^_, _<_}
-use mathlib.Core.Path.{_≡_, refl, ap}
-use mathlib.Core.List.{List, [], _∷_}
+use Prim.Native.Nat.{_<_}
+use mathlib.Core.Path.{_≡_, refl}
 use native.Mathlib.Nat.{mod-eq-of-lt}
 use native.Mathlib.Omega.{arith}
-use lib.ListN.{length}
 use lib.Dec.{lit<}
-use Rattle.words.specs.Words.{at, bitOf, cut}
+use Rattle.words.specs.Words.{at, cut}
 use Rattle.words.proofs.Laws.{Words, words-at, bit-back, bit-small, cut-back}
 use Rattle.words_info.specs.Coding.{sizeWords, sizeOf, howWords, howOf, pickWords, pickOf, funcWords, funcOf, toldWords, toldOf, capWords, capOf, portWords, portOf}
 use Rattle.words_info.specs.Fits.{SizeFits, HowFits, PickFits, FuncFits, ToldFits, CapFits, PortFits}

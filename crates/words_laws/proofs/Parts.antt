@@ -1,26 +1,22 @@
 -- The parts of a session's words, each in its place.
-use Prim.Native.Nat.{ℕ, zero, suc, _+_, _*_, _^_, _≤_, _<_}
-use mathlib.Core.Bool.{Bool, true, false}
+use Prim.Native.Nat.{ℕ, _+_, _≤_}
+use mathlib.Core.Bool.{true}
 use mathlib.Core.Path.{_≡_, refl, ap, sym, _∙_}
-use mathlib.Core.List.{List, [], _∷_, _++_}
+use mathlib.Core.List.{List, _++_}
 use native.Mathlib.Omega.{arith}
-use borrow.Author.Tests.{le-leb, le-ltb, leb-true, ltb-false}
-use lib.ListN.{length, getD, length-append}
-use lib.Dec.{ltb, leb}
-use Rattle.fields.specs.Outcome.{Outcome, value, refused, pick}
-use Rattle.fields.proofs.Outcomes.{same-value, never-refused, past}
-use Rattle.words.specs.Words.{wordsIn, putWords, sameWords, flat, rowsIn}
-use Rattle.words.proofs.Laws.{Words, split, words-small, words-are, same-words, words-append, length-flat, rows-read, flat-read}
-use Rattle.words_task.specs.Coding.{taskWords, taskOf}
+use borrow.Author.Tests.{le-leb, le-ltb}
+use lib.ListN.{length, length-append}
+use Rattle.words.specs.Words.{wordsIn, flat, rowsIn}
+use Rattle.words.proofs.Laws.{split, words-are, length-flat, rows-read}
+use Rattle.words_task.specs.Coding.{taskWords}
 use Rattle.words_task.proofs.Trip.{task-length}
-use Rattle.words_stage.specs.Coding.{stageWords, stageOf}
+use Rattle.words_stage.specs.Coding.{stageWords}
 use Rattle.words_stage.proofs.Trip.{stage-length}
-use Rattle.words_books.specs.Coding.{ledgerWords, ledgerOf, bufferWords}
-use Rattle.words_info.specs.Coding.{toldWords, toldOf, capWords, capOf, portWords, portOf}
-use Rattle.words_beside.specs.Coding.{resetWords, resetOf, findWords, findOf}
-use Rattle.words_session.specs.Image.{ledgerFor, toldFor, icmWords, icmOf, bufferIn, standWords, infoWords, tailWords, behindWords, sessionWords, sessionFrom, sessionIn, countsFit, infoStands, workStands, stands, decodeOf, infoFrom, infoIn}
+use Rattle.words_books.specs.Coding.{ledgerWords, bufferWords}
+use Rattle.words_info.specs.Coding.{toldWords, capWords, portWords}
+use Rattle.words_beside.specs.Coding.{resetWords, findWords}
+use Rattle.words_session.specs.Image.{ledgerFor, toldFor, icmWords, icmOf, bufferIn, standWords, infoWords, tailWords, behindWords, sessionWords, stands}
 use Rattle.words_session.proofs.Laws.{stand-length, icm-length}
-use Rattle.session.specs.declared.Icm.{Icm}
 use Rattle.dma.specs.declared.Buffer.{Buffer}
 use Rattle.session.specs.declared.Session.{Session}
 

@@ -1,17 +1,17 @@
 -- Where a session differs from the one that was read in its task only, writing the task alone is as good as writing all.
-use Prim.Native.Nat.{ℕ, zero, suc, _+_, _*_, _^_, _≤_, _<_}
+use Prim.Native.Nat.{ℕ, zero, suc, _+_, _≤_}
 use mathlib.Core.Bool.{Bool, true, false}
 use mathlib.Core.Path.{_≡_, refl, ap, sym, _∙_}
 use mathlib.Core.List.{List, [], _∷_, _++_}
 use native.Mathlib.Omega.{arith}
-use borrow.Author.Tests.{ltb-false, leb-true, le-ltb}
-use lib.ListN.{length, getD}
+use borrow.Author.Tests.{ltb-false, leb-true}
+use lib.ListN.{length}
 use lib.Dec.{ltb, leb}
-use Rattle.fields.specs.Outcome.{Outcome, value, refused, pick}
+use Rattle.fields.specs.Outcome.{value, refused, pick}
 use Rattle.fields.proofs.Laws.{Bytes}
 use Rattle.fields.proofs.Outcomes.{same-value, never-refused, past}
 use Rattle.words.specs.Words.{wordsIn, putWords, sameWords, flat, rowsIn}
-use Rattle.words.proofs.Laws.{same-words, words-are, words-append, words-agree, words-put, words-same, put-append, flat-read, length-words}
+use Rattle.words.proofs.Laws.{same-words, words-append, words-agree, words-put, words-same, put-append, flat-read, length-words}
 use Rattle.words_task.specs.Coding.{taskWords, taskOf}
 use Rattle.words_task.specs.Fits.{TaskFits}
 use Rattle.words_task.proofs.Trip.{task-length, task-back, task-small}
@@ -20,7 +20,7 @@ use Rattle.words_stage.proofs.Trip.{stage-length}
 use Rattle.words_books.specs.Coding.{ledgerWords, ledgerOf, bufferWords}
 use Rattle.words_info.specs.Coding.{toldWords, toldOf, capWords, capOf, portWords, portOf}
 use Rattle.words_beside.specs.Coding.{resetWords, resetOf, findWords, findOf}
-use Rattle.words_session.specs.Image.{ledgerFor, toldFor, icmWords, icmOf, bufferIn, standWords, infoWords, tailWords, behindWords, sessionWords, putSession, putHot, taskIn, sessionIn, countsFit, workStands, infoStands, stands, decodeOf}
+use Rattle.words_session.specs.Image.{ledgerFor, toldFor, icmWords, icmOf, bufferIn, standWords, infoWords, tailWords, behindWords, putSession, putHot, sessionIn, countsFit, workStands, infoStands, stands, decodeOf}
 use Rattle.words_session.proofs.Laws.{known}
 use Rattle.work.specs.declared.Task.{Task}
 use Rattle.session.specs.declared.Session.{Session}

@@ -1,12 +1,11 @@
 -- A session that was written is read, and what was read stands there word for word.
-use Prim.Native.Nat.{ℕ, _+_, _*_, _^_, _≤_, _<_}
-use mathlib.Core.Bool.{Bool, true, false}
+use Prim.Native.Nat.{ℕ, _+_, _≤_}
 use mathlib.Core.Path.{_≡_, refl, ap, sym, _∙_}
 use mathlib.Core.List.{List, [], _∷_, _++_}
 use native.Mathlib.Omega.{arith}
 use lib.ListN.{length, getD}
-use Rattle.fields.specs.Outcome.{Outcome, value, refused, pick}
-use Rattle.words.specs.Words.{wordsIn, putWords, sameWords, flat, rowsIn, Each}
+use Rattle.fields.specs.Outcome.{value}
+use Rattle.words.specs.Words.{wordsIn, flat, rowsIn, Each}
 use Rattle.words.proofs.Laws.{Words, words-small, words-put, length-words, words-after}
 use Rattle.words_task.specs.Coding.{taskWords, taskOf}
 use Rattle.words_task.proofs.Trip.{task-back, task-small, task-length}
@@ -19,11 +18,10 @@ use Rattle.words_info.specs.Coding.{toldWords, toldOf, capWords, capOf, portWor
 use Rattle.words_info.proofs.Trip.{told-back, told-small, cap-back, cap-small, port-back, port-small}
 use Rattle.words_beside.specs.Coding.{resetWords, resetOf, findWords, findOf}
 use Rattle.words_beside.proofs.Trip.{reset-back, reset-small, find-back, find-small}
-use Rattle.words_session.specs.Image.{ledgerFor, toldFor, icmWords, icmOf, bufferIn, standWords, infoWords, tailWords, behindWords, sessionWords, putSession, putHot, workIn, booksIn, infoFrom, infoIn, sessionFrom, sessionIn, stands, decodeOf}
+use Rattle.words_session.specs.Image.{ledgerFor, toldFor, icmWords, icmOf, bufferIn, standWords, infoWords, tailWords, behindWords, sessionWords, putSession, putHot, workIn, booksIn, infoFrom, infoIn, sessionFrom, sessionIn, decodeOf}
 use Rattle.words_session.proofs.Laws.{known}
 use Rattle.session.specs.declared.Icm.{Icm}
 use Rattle.session.specs.declared.Info.{Info}
-use Rattle.dma.specs.declared.Buffer.{Buffer}
 use Rattle.work.specs.declared.Task.{Task}
 use Rattle.session.specs.declared.Session.{Session}
 use Rattle.words_laws.specs.Kept.{IcmFits, Fits}

@@ -1,6 +1,6 @@
 -- A SESSION OF ITS TYPE FITS. What the language says of a parameter or a result that is a session (`Is` of its type) has every number below the bound of its width and every
 -- array at its length; so what the code writes is read back, by `trip`, where the counts are within the arrays.
-use Prim.Native.Nat.{ℕ, _≤_}
+use Prim.Native.Nat.{_≤_}
 use mathlib.Core.List.{List}
 use mir.Val.{Val}
 use denote.Laws.{Is}

@@ -1,6 +1,6 @@
 -- What is shown of a session that is kept as words. The theorems are `trip` (what was written is read), `whole` (what was read stands there already, word for
 -- word), `poll-alone` and `polled` (the task alone), `stays` and `hot-stays` (other bytes are left) of proofs/.
-use Prim.Native.Nat.{ℕ, _^_, _≤_, _<_}
+use Prim.Native.Nat.{_^_, _≤_, _<_}
 use mathlib.Core.Path.{_≡_}
 use lib.ListN.{length}
 use Rattle.words.specs.Words.{Each}

@@ -12,7 +12,7 @@ use Rattle.words.specs.Words.{wordsIn, putWords, sameWords, within, flat}
 use Rattle.words.proofs.Laws.{put-append, length-flat}
 use Rattle.words_stage.specs.Coding.{stageWords}
 use Rattle.words_stage.proofs.Trip.{stage-length}
-use Rattle.words_books.specs.Coding.{ledgerWords, bufferWords}
+use Rattle.words_books.specs.Coding.{ledgerWords}
 use Rattle.session.specs.declared.Icm.{Icm}
 use Rattle.session.specs.declared.Session.{Session}
 use Rattle.words_session.specs.Image.{icmOf, icmWords, standWords, ledgerFor, sessionIn, stands, decodeOf}

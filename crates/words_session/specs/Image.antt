@@ -1,13 +1,13 @@
 -- A session as 417 words of eight bytes, and the session that words stand for. Word 0 to 12 the task, which is all that changes while a command is polled; then
 -- word 13 to 20 the stage, 21 to 52 the ledger with the two counts first, 53 to 60 what was told, 61 to 92 the capabilities, 93 to 109 and 110 to 126 the ports,
 -- 127 to 150 the reset, 151 to 168 the search for the UAR BAR, 169 to 224 the ranges, 225 to 416 the lent buffers.
-use Prim.Native.Nat.{ℕ, _+_, _*_}
-use mathlib.Core.Bool.{Bool, true, false}
+use Prim.Native.Nat.{ℕ, _+_}
+use mathlib.Core.Bool.{Bool, false}
 use mathlib.Core.List.{List, [], _∷_, _++_}
 use lib.ListN.{length}
 use lib.Dec.{leb, ltb}
 use Rattle.fields.specs.Outcome.{Outcome, value, refused, pick}
-use Rattle.words.specs.Words.{wordsIn, putWords, sameWords, within, flat, rowsIn, at}
+use Rattle.words.specs.Words.{wordsIn, putWords, sameWords, flat, rowsIn, at}
 use Rattle.words_task.specs.Coding.{taskWords, taskOf}
 use Rattle.words_stage.specs.Coding.{stageWords, stageOf}
 use Rattle.words_books.specs.Coding.{bufferWords, bufferOf, ledgerWords, ledgerOf}
@@ -18,7 +18,6 @@ use Rattle.words_beside.specs.Coding.{resetWords, resetOf, findWords, findOf}
 use Rattle.dma.specs.declared.Buffer.{Buffer}
 use Rattle.work.specs.declared.Task.{Task}
 use Rattle.work.specs.declared.Work.{Work}
-use Rattle.session.specs.Session.{fresh}
 use Rattle.session.specs.declared.Icm.{Icm}
 use Rattle.session.specs.declared.Lists.{Lists}
 use Rattle.session.specs.declared.Info.{Info}

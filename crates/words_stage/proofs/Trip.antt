@@ -1,18 +1,15 @@
 -- What was put into words is read back from them.
-use Prim.Native.Nat.{ℕ, _+_, _%_, _^_, _<_}
+use Prim.Native.Nat.{_<_}
 use mathlib.Core.Path.{_≡_, refl, ap}
-use mathlib.Core.List.{List, [], _∷_}
 use native.Mathlib.Nat.{mod-eq-of-lt}
 use native.Mathlib.Omega.{arith}
 use lib.ListN.{length}
 use lib.Dec.{lit<}
-use Rattle.words.specs.Words.{at, bitOf, cut}
-use Rattle.words.proofs.Laws.{Words, words-at, bit-back, bit-small, cut-back}
-use Rattle.words_task.specs.Coding.{faultWords, faultOf}
-use Rattle.words_task.specs.Fits.{FaultFits}
+use Rattle.words.specs.Words.{at}
+use Rattle.words.proofs.Laws.{Words, words-at}
+use Rattle.words_task.specs.Coding.{faultWords}
 use Rattle.words_task.proofs.Trip.{fault-back, fault-small}
 use Rattle.words_books.specs.Coding.{bufferWords, refusalWords}
-use Rattle.words_books.specs.Fits.{BufferFits, RefusalFits}
 use Rattle.words_books.proofs.Trip.{buffer-back, buffer-small, refusal-back, refusal-small}
 use Rattle.words_stage.specs.Coding.{virtWords, virtOf, cutterWords, cutterOf, areaWords, areaOf, prepareWords, prepareOf, bootWords, bootOf, closeWords, closeOf, formWords, formOf, clientWords, clientOf, gaveWords, gaveOf, stageWords, stageOf}
 use Rattle.words_stage.specs.Fits.{VirtFits, CutterFits, AreaFits, PrepareFits, BootFits, CloseFits, FormFits, ClientFits, GaveFits, StageFits}

@@ -1,8 +1,5 @@
 -- Each number is one of its type, and each array has its length.
-use Prim.Native.Nat.{ℕ, _^_, _<_}
-use mathlib.Core.Path.{_≡_}
-use lib.ListN.{length}
-use Rattle.words.specs.Words.{Below}
+use Prim.Native.Nat.{_^_, _<_}
 use Rattle.words_task.specs.Fits.{FaultFits}
 use Rattle.words_books.specs.Fits.{BufferFits, RefusalFits}
 use Rattle.dma.specs.declared.Virt.{Virt}

@@ -1,13 +1,12 @@
 -- What was put into words is read back from them.
-use Prim.Native.Nat.{ℕ, _+_, _%_, _^_, _<_}
+use Prim.Native.Nat.{_<_}
 use mathlib.Core.Path.{_≡_, refl, ap}
-use mathlib.Core.List.{List, [], _∷_}
 use native.Mathlib.Nat.{mod-eq-of-lt}
 use native.Mathlib.Omega.{arith}
 use lib.ListN.{length}
 use lib.Dec.{lit<}
-use Rattle.words.specs.Words.{at, bitOf, cut}
-use Rattle.words.proofs.Laws.{Words, words-at, bit-back, bit-small, cut-back}
+use Rattle.words.specs.Words.{at}
+use Rattle.words.proofs.Laws.{Words, words-at, bit-back, bit-small}
 use Rattle.words_task.specs.Coding.{faultWords, faultOf, catasWords, catasOf, phaseWords, phaseOf, cmdWords, cmdOf, attrWords, attrOf, claimWords, claimOf, makePhaseWords, makePhaseOf, makingWords, makingOf, freePhaseWords, freePhaseOf, freeingWords, freeingOf, partingWords, partingOf, taskWords, taskOf}
 use Rattle.words_task.specs.Fits.{FaultFits, CatasFits, PhaseFits, CmdFits, AttrFits, ClaimFits, MakePhaseFits, MakingFits, FreePhaseFits, FreeingFits, PartingFits, TaskFits}
 use Rattle.buffer.specs.declared.Fault.{Fault}

@@ -1,8 +1,5 @@
 -- Each number is one of its type, and each array has its length.
-use Prim.Native.Nat.{ℕ, _^_, _<_}
-use mathlib.Core.Path.{_≡_}
-use lib.ListN.{length}
-use Rattle.words.specs.Words.{Below}
+use Prim.Native.Nat.{_^_, _<_}
 use Rattle.buffer.specs.declared.Fault.{Fault}
 use Rattle.buffer.specs.declared.Fault.the-variants as fv
 use Rattle.command.specs.declared.Catas.{Catas}

@@ -3,7 +3,6 @@ use Prim.Native.Nat.{ℕ}
 use mathlib.Core.Bool.{Bool, true, false}
 use mathlib.Core.List.{List}
 use mathlib.Core.Path.{_≡_, refl, subst}
-use Rattle.pci.specs.Script.{Script, ret, ask}
 use Rattle.pci.specs.Machine.{Next, Follows}
 use Rattle.pci.proofs.Cases.{register-case}
 use Rattle.pci.proofs.Within.{within, wrapped}
@@ -17,7 +16,6 @@ use Rattle.command.specs.declared.CmdEnd.{CmdEnd}
 use Rattle.reset.specs.Steps.{resetAsks, resetStepOf, resetStep, resetScript, nextOf}
 use Rattle.reset.proofs.Follows.{reset-follows}
 use Rattle.reset.specs.declared.Reset.{Reset}
-use Rattle.reset.specs.declared.ResetStep.{ResetStep}
 use Rattle.reset.specs.declared.Ending.{Ending as ResetEnding}
 use Rattle.reset.specs.declared.Ending.the-variants as rg
 use Rattle.buffer.specs.Steps.{makeAsks, makeStepOf, makeStep, makeScript, makeNext, freeAsks, freeStepOf, freeStep, freeScript, freeNext}
@@ -45,7 +43,6 @@ use Rattle.uar.specs.Steps.{barAsks, barStepOf, barStep, barScript}
 use Rattle.uar.specs.Steps as u
 use Rattle.uar.proofs.Follows.{bar-follows}
 use Rattle.uar.specs.declared.FindBar.{FindBar}
-use Rattle.uar.specs.declared.BarStep.{BarStep}
 use Rattle.uar.specs.declared.BarEnding.{BarEnding}
 use Rattle.uar.specs.declared.BarEnding.the-variants as bg
 use Rattle.work.specs.Work.{working, workAsks, workStep, workScript, leads, attrWork, claimWork, makeWork, freeWork, cmdWork, partWork, lookStep, resetOn, barOn, isResting, WorkFollows}

@@ -19,7 +19,6 @@ use Rattle.command.specs.declared.CmdStep.the-variants as cs
 use Rattle.reset.specs.Steps.{started, resetAsks, resetStepOf, resetScript}
 use Rattle.reset.specs.declared.Ending.{Ending as ResetEnding}
 use Rattle.reset.specs.declared.Ending.the-variants as rg
-use Rattle.reset.specs.declared.ResetStep.{ResetStep}
 use Rattle.reset.specs.declared.Reset.{Reset}
 use Rattle.buffer.specs.Steps.{makeAsks, makeStepOf, makeScript, freeAsks, freeStepOf, freeScript}
 use Rattle.buffer.specs.declared.MakeStep.{MakeStep}
@@ -39,7 +38,6 @@ use Rattle.uar.specs.Steps.{barAsks, barStepOf, barScript}
 use Rattle.uar.specs.Steps as u
 use Rattle.uar.specs.declared.BarEnding.{BarEnding}
 use Rattle.uar.specs.declared.BarEnding.the-variants as bg
-use Rattle.uar.specs.declared.BarStep.{BarStep}
 use Rattle.uar.specs.declared.FindBar.{FindBar}
 use Rattle.work.specs.declared.Task.{Task}
 use Rattle.work.specs.declared.Task.the-variants as t

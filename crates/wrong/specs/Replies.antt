@@ -1,13 +1,12 @@
 -- WRONG ANSWERS of the functions on replies, the layout and the mailboxes of bring-up, as in `specs/Wrong.antt`. The theorem is `replies-refused`.
-use Prim.Native.Nat.{ℕ, _+_, _-_, _^_}
-use mathlib.Core.Bool.{Bool, true, false, _&&_}
+use Prim.Native.Nat.{ℕ, _+_, _^_}
+use mathlib.Core.Bool.{_&&_}
 use mathlib.Core.List.{List, [], _∷_, _++_}
 use lib.Count.{trailingZeros}
-use lib.ListN.{getD, set, take, drop, replicate}
-use Rattle.fields.specs.Outcome.{Outcome, value, refused, valueOr, numberOf}
+use lib.ListN.{set, take, drop, replicate}
+use Rattle.fields.specs.Outcome.{Outcome, value, valueOr, numberOf}
 use Rattle.fields.specs.Fields.{putAt}
 use Rattle.fields.specs.declared.Order.the-variants.{Big}
-use Rattle.bars.specs.declared.Size.{Size}
 use Rattle.bars.specs.declared.Size.the-variants as s
 use Rattle.reply.specs.Capability.{bit, devCapOf, noCaps, capabilityOf, refusedBy}
 use Rattle.reply.specs.Replies.{noFw, queryFwOf, fwHeld, noPort, queryPortOf, queryFuncOf}

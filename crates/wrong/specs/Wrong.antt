@@ -33,7 +33,6 @@ use Rattle.bars.specs.declared.Size.{Size}
 use Rattle.bars.specs.declared.Size.the-variants as s
 use Rattle.bars.specs.declared.How.{How}
 use Rattle.bars.specs.declared.How.the-variants as h
-use Rattle.bars.specs.declared.Pick.{Pick}
 use Rattle.bars.specs.declared.Candidate.{Candidate}
 use Rattle.bars.specs.declared.Asking.{Asking}
 use Rattle.bars.specs.declared.Asking.the-variants as k

@@ -1,4 +1,3 @@
-use borrow.Author.Needs.{needs}
 use Rattle.calls.proofs.by_opcode.Statement.{statement}
 use Rattle.calls.proofs.by_opcode.Tie as tie
 

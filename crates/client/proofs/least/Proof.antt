@@ -1,4 +1,3 @@
-use borrow.Author.Needs.{needs}
 use borrow.Author.Tests.{le-ltb, lt-ltb}
 use Rattle.client.proofs.least.Statement.{statement}
 use Rattle.client.proofs.least.Tie as tie

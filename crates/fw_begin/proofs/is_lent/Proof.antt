@@ -1,4 +1,3 @@
-use borrow.Author.Needs.{needs}
 use borrow.Author.Tests.{eq-eqb, le-leb, le-ltb, lt-leb, lt-ltb, ne-eqb}
 use Rattle.fw_begin.proofs.is_lent.Statement.{statement}
 use Rattle.fw_begin.proofs.is_lent.Tie as tie

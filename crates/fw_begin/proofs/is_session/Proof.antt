@@ -1,4 +1,3 @@
-use borrow.Author.Needs.{needs}
 use borrow.Author.Tests.{le-leb, le-ltb, lt-leb, lt-ltb}
 use Rattle.fw_begin.proofs.is_session.Statement.{statement}
 use Rattle.fw_begin.proofs.is_session.Tie as tie

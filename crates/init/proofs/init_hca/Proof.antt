@@ -1,4 +1,3 @@
-use native.Mathlib.Omega.{arith}
 use borrow.Author.Needs.{needs}
 use Rattle.init.proofs.init_hca.Statement.{statement}
 use Rattle.init.proofs.init_hca.Tie as tie

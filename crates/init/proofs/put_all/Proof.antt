@@ -1,12 +1,11 @@
-use Prim.Native.Nat.{ℕ, _+_, _-_, _≤_, _<_}
+use Prim.Native.Nat.{_-_, _≤_}
 use mathlib.Core.Path.{_≡_, refl, ap, sym, _∙_}
-use mathlib.Core.List.{List, []}
+use mathlib.Core.List.{[]}
 use native.Mathlib.Omega.{arith}
 use borrow.Author.Needs.{needs}
-use lib.ListN.{length, drop, getD, drop-of-length-le}
-use Rattle.init.specs.declared.Field.{Field}
+use lib.ListN.{length, drop, drop-of-length-le}
 use Rattle.init.specs.Init.{putAll}
-use Rattle.init.proofs.Laws.{noField, within-at, put-more}
+use Rattle.init.proofs.Laws.{within-at, put-more}
 use Rattle.init.proofs.put_all.Statement.{statement}
 use Rattle.init.proofs.put_all.Tie as tie
 

@@ -1,6 +1,6 @@
 -- `linkage::hca_push_undo` meets its contract: a walk of its MIR, by hand. The record is made of its four numbers, `undo::push_undo` pushes it, and the covered method
 -- `number` gives document 01's number. All that the proof knows of the two is that each meets its contract. Assumes nothing.
-use mathlib.Core.Path.{_≡_, refl, sym, ap, _∙_}
+use mathlib.Core.Path.{_≡_, refl, ap, _∙_}
 use Prim.Native.Nat.{ℕ, _<_, _^_}
 use mathlib.Core.List.{List, [], _∷_}
 use lib.ListN.{length}

@@ -1,4 +1,4 @@
-use mathlib.Core.Path.{_≡_, ap, _∙_}
+use mathlib.Core.Path.{ap, _∙_}
 use borrow.Author.Needs.{needs}
 use Rattle.fields.specs.Outcome.{Outcome}
 use Rattle.reply.specs.Replies.{queryFw, queryFwOf}

@@ -1,4 +1,3 @@
-use borrow.Author.Needs.{needs}
 use borrow.Author.Tests.{eq-eqb, ne-eqb}
 use Rattle.opening_values.proofs.status_of.Statement.{statement}
 use Rattle.opening_values.proofs.status_of.Tie as tie

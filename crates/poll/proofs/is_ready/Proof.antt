@@ -1,4 +1,3 @@
-use borrow.Author.Needs.{needs}
 use borrow.Author.Tests.{eq-eqb, le-leb, le-ltb, lt-leb, lt-ltb, ne-eqb}
 use Rattle.poll.proofs.is_ready.Statement.{statement}
 use Rattle.poll.proofs.is_ready.Tie as tie

@@ -5,7 +5,7 @@ use Rattle.words.proofs.Laws.{words-count}
 use lib.ListN.{length, replicate}
 use native.Mathlib.Omega.{arith}
 use mathlib.Core.Path.{refl, _∙_}
-use borrow.Author.Tests.{le-leb, le-ltb, lt-leb, lt-ltb}
+use borrow.Author.Tests.{le-ltb, lt-leb, lt-ltb}
 use Rattle.abi.specs.Readers.{booksKnown}
 use Rattle.readers.proofs.give_books.Statement.{statement}
 use Rattle.readers.proofs.give_books.Tie as tie

@@ -5,7 +5,7 @@ use Rattle.words_calls.specs.Calls.{questionWords}
 use Rattle.fw_plan.specs.Calls.{asksOf}
 use Rattle.words_session.proofs.Laws.{stored}
 use mathlib.Core.Path.{ap, _∙_}
-use borrow.Author.Tests.{le-leb, le-ltb, lt-leb, lt-ltb}
+use borrow.Author.Tests.{lt-leb, lt-ltb}
 use Rattle.abi.specs.Readers.{questionKnown}
 use Rattle.readers.proofs.give_question.Statement.{statement}
 use Rattle.readers.proofs.give_question.Tie as tie

@@ -5,7 +5,7 @@ use Rattle.results.specs.Results.{outcomeWords}
 use Rattle.fw_plan.specs.Calls.{outcomeOf}
 use Rattle.words_session.proofs.Laws.{stored}
 use mathlib.Core.Path.{ap, _∙_}
-use borrow.Author.Tests.{le-leb, le-ltb, lt-leb, lt-ltb}
+use borrow.Author.Tests.{lt-leb, lt-ltb}
 use Rattle.abi.specs.Readers.{resultKnown}
 use Rattle.readers.proofs.give_result.Statement.{statement}
 use Rattle.readers.proofs.give_result.Tie as tie

@@ -1,7 +1,6 @@
 use native.Mathlib.Nat.{div-one}
 use native.Mathlib.Omega.{arith}
 use borrow.Author.Needs.{needs}
-use Rattle.fields.specs.Fields.{be}
 use Rattle.reply.proofs.decoded.Statement.{statement}
 use Rattle.reply.proofs.decoded.Tie as tie
 

@@ -1,6 +1,3 @@
-use Prim.Native.Nat.{ℕ}
-use mathlib.Core.Path.{_≡_, refl, ap, sym, _∙_}
-use borrow.Author.Tests.{lt-ltb, le-ltb, not-true, not-false}
 use borrow.Author.Needs.{needs}
 use Rattle.reply.proofs.Answers.{fw-short-answers, fw-revision-answers, fw-good-answers}
 use Rattle.reply.proofs.query_fw.Statement.{statement}

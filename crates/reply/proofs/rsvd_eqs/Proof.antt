@@ -1,4 +1,3 @@
-use Prim.Native.Nat.{_*_}
 use mathlib.Core.Path.{sym}
 use native.Mathlib.Nat.{le-of-lt, max-eq-left, max-eq-right}
 use borrow.Author.Needs.{needs}

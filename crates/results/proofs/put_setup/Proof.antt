@@ -3,7 +3,7 @@ use borrow.Author.Tests.{le-ltb, lt-ltb}
 use mathlib.Core.Path.{ap, _∙_}
 use mathlib.Core.List.{List}
 use Prim.Native.Nat.{ℕ}
-use Rattle.results.specs.Results.{putSaid, putPorts, putLayout, setupIn}
+use Rattle.results.specs.Results.{putPorts, putLayout, setupIn}
 use Rattle.results.proofs.put_setup.Statement.{statement}
 use Rattle.results.proofs.put_setup.Tie as tie
 

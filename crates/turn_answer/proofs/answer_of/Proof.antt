@@ -5,7 +5,7 @@ use Rattle.abi.proofs.Kept.{answer-keeps, answer-late, answer-short}
 use Rattle.abi.specs.Turns.{codeBy, stateBy, outBy}
 use Rattle.fw_plan.specs.declared.Turn.{Turn}
 use mathlib.Core.Path.{ap, sym, _∙_}
-use borrow.Author.Tests.{le-leb, le-ltb, lt-leb, lt-ltb}
+use borrow.Author.Tests.{le-ltb, lt-leb, lt-ltb}
 use Rattle.abi.specs.Turns.{answerKnown}
 use Rattle.turn_answer.proofs.answer_of.Statement.{statement}
 use Rattle.turn_answer.proofs.answer_of.Tie as tie

@@ -5,7 +5,7 @@ use Rattle.abi.proofs.Kept.{call-keeps, call-late, call-short}
 use Rattle.abi.specs.Turns.{codeBy, stateBy, outBy}
 use Rattle.fw_plan.specs.declared.Turn.{Turn}
 use mathlib.Core.Path.{ap, sym, _∙_}
-use borrow.Author.Tests.{le-leb, le-ltb, lt-leb, lt-ltb}
+use borrow.Author.Tests.{le-ltb, lt-leb, lt-ltb}
 use Rattle.abi.specs.Turns.{callKnown}
 use Rattle.turn_call.proofs.call_of.Statement.{statement}
 use Rattle.turn_call.proofs.call_of.Tie as tie

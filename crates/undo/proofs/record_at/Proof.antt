@@ -1,6 +1,6 @@
 -- `undo::record_at` meets its contract: a walk of its MIR, by hand. The place of `list[i]` is i times the record's size past the
 -- slice's pointer, and the record is read there, whole. Assumes nothing.
-use mathlib.Core.Path.{_≡_, refl, sym}
+use mathlib.Core.Path.{refl, sym}
 use Prim.Native.Nat.{ℕ, suc, _*_, _<_, _≤_, _^_}
 use native.Mathlib.Omega.{arith}
 use mathlib.Core.List.{List, [], _∷_}

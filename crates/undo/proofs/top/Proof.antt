@@ -1,6 +1,6 @@
 -- `undo::top` meets its contract: a walk of its MIR, by hand. The record is taken out of the caller's list by `record_at`, and the covered functions `last_place` and
 -- `top_by` say which and what of it. All that the proof knows of the three is that each meets its contract. Assumes nothing.
-use mathlib.Core.Path.{_≡_, refl, sym, ap, _∙_}
+use mathlib.Core.Path.{_≡_, refl, ap, _∙_}
 use Prim.Native.Nat.{ℕ, _-_, _<_, _^_}
 use mathlib.Core.List.{List, [], _∷_}
 use lib.ListN.{length, getD}

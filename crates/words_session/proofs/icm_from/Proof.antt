@@ -1,10 +1,9 @@
-use Prim.Native.Nat.{ℕ, _+_, _-_, _*_, _≤_, _<_}
-use mathlib.Core.Path.{_≡_, refl, ap, sym, _∙_}
-use mathlib.Core.List.{List, [], _++_, append-nil}
+use Prim.Native.Nat.{_+_, _-_, _*_, _≤_}
+use mathlib.Core.Path.{_≡_, refl, ap, _∙_}
+use mathlib.Core.List.{List, _++_, append-nil}
 use native.Mathlib.Omega.{arith}
-use borrow.Author.Needs.{needs}
-use lib.ListN.{length, replicate, drop, getD, set, drop-of-length-le}
-use Rattle.words.specs.Words.{wordsIn, putWords, flat, rowsIn}
+use lib.ListN.{replicate, drop, set}
+use Rattle.words.specs.Words.{wordsIn, rowsIn}
 use Rattle.words.proofs.Laws.{rows-turn}
 use Rattle.words_session.specs.Image.{icmOf, icmWords}
 use Rattle.session.specs.declared.Icm.{Icm}

@@ -1,7 +1,5 @@
-use mathlib.Core.Path.{_≡_, refl, ap, _∙_}
-use mathlib.Core.List.{List, _++_}
+use mathlib.Core.Path.{refl, ap, _∙_}
 use borrow.Author.Needs.{needs}
-use Prim.Native.Nat.{ℕ}
 use Rattle.words.specs.Words.{putWords}
 use Rattle.words_info.specs.Coding.{toldWords, capWords, portWords}
 use Rattle.words_info.specs.declared.Told.{Told}

@@ -1,8 +1,5 @@
-use mathlib.Core.Path.{_≡_, refl, ap, _∙_}
-use mathlib.Core.List.{List, _++_}
+use mathlib.Core.Path.{refl, _∙_}
 use borrow.Author.Needs.{needs}
-use Prim.Native.Nat.{ℕ}
-use Rattle.words.specs.Words.{putWords}
 use Rattle.words_stage.specs.Coding.{stageWords}
 use Rattle.words_stage.proofs.Trip.{stage-length}
 use Rattle.words_books.specs.Coding.{ledgerWords}

@@ -1,4 +1,4 @@
-use mathlib.Core.Path.{ap, sym, _∙_}
+use mathlib.Core.Path.{sym, _∙_}
 use borrow.Author.Needs.{needs}
 use Rattle.words_session.proofs.work_stands.Statement.{statement}
 use Rattle.words_session.proofs.work_stands.Tie as tie

@@ -1,4 +1,3 @@
-use borrow.Author.Needs.{needs}
 use borrow.Author.Tests.{eq-eqb, ne-eqb}
 use Rattle.answers.proofs.bar.is_set.Statement.{statement}
 use Rattle.answers.proofs.bar.is_set.Tie as tie

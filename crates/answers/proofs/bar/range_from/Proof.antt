@@ -1,4 +1,3 @@
-use borrow.Author.Needs.{needs}
 use Rattle.answers.proofs.bar.range_from.Statement.{statement}
 use Rattle.answers.proofs.bar.range_from.Tie as tie
 

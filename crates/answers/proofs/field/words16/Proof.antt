@@ -1,7 +1,4 @@
-use mathlib.Core.Path.{ap, sym}
 use borrow.Author.Needs.{needs}
-use Rattle.fields.specs.Fields.{read16}
-use Rattle.answers.specs.Words.{numberWords}
 use Rattle.answers.proofs.field.words16.Statement.{statement}
 use Rattle.answers.proofs.field.words16.Tie as tie
 

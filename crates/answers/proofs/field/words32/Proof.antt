@@ -1,7 +1,4 @@
-use mathlib.Core.Path.{ap, sym}
 use borrow.Author.Needs.{needs}
-use Rattle.fields.specs.Fields.{read32}
-use Rattle.answers.specs.Words.{numberWords}
 use Rattle.answers.proofs.field.words32.Statement.{statement}
 use Rattle.answers.proofs.field.words32.Tie as tie
 

@@ -1,7 +1,4 @@
-use mathlib.Core.Path.{ap}
 use borrow.Author.Needs.{needs}
-use Rattle.answers.specs.declared.replies.Code.{Code}
-use Rattle.answers.specs.Tables.{judgedOf}
 use Rattle.answers.proofs.tables.judge_laid.Statement.{statement}
 use Rattle.answers.proofs.tables.judge_laid.Tie as tie
 

@@ -3,10 +3,10 @@ use mathlib.Core.Path.{_≡_, refl, ap, sym, _∙_}
 use mathlib.Core.List.{List, []}
 use native.Mathlib.Omega.{arith}
 use borrow.Author.Needs.{needs}
-use lib.ListN.{length, drop, getD, drop-of-length-le}
+use lib.ListN.{length, drop, drop-of-length-le}
 use Rattle.answers.specs.Words.{putWords}
 use Rattle.layout.specs.declared.Table.{Table}
-use Rattle.answers.specs.Tables.{rowWords, rowsWords}
+use Rattle.answers.specs.Tables.{rowsWords}
 use Rattle.answers.proofs.Laws.{length-put}
 use Rattle.answers.proofs.Rows.{rows-more}
 use Rattle.answers.proofs.tables.put_rows.Statement.{statement}

@@ -1,7 +1,5 @@
-use Prim.Native.Nat.{_*_}
 use borrow.Author.Needs.{needs}
 use borrow.Author.Tests.{lt-leb, le-leb}
-use lib.ListN.{length}
 use Rattle.answers.proofs.words.give.Statement.{statement}
 use Rattle.answers.proofs.words.give.Tie as tie
 

@@ -1,8 +1,6 @@
 use Prim.Native.Nat.{ℕ, _*_}
 use mathlib.Core.Path.{ap, sym, _∙_}
-use native.Mathlib.Omega.{arith}
 use borrow.Author.Needs.{needs}
-use lib.Dec.{lit<}
 use Rattle.hcr.specs.Words.{register, swapOf}
 use Rattle.pci.specs.declared.Question.the-variants.{RegWrite, Stall}
 use Rattle.command.specs.Machine.{cmdAsks, phaseAsks, wordAt}

@@ -1,7 +1,6 @@
 use Prim.Native.Nat.{ℕ}
 use mathlib.Core.Path.{ap}
 use borrow.Author.Needs.{needs}
-use Rattle.hcr.specs.declared.RegWrite.{RegWrite}
 use Rattle.hcr.specs.Words.{register}
 use Rattle.hcr.proofs.RegWrite.new.Statement.{statement}
 use Rattle.hcr.proofs.RegWrite.new.Tie as tie

@@ -1,4 +1,4 @@
-use mathlib.Core.Path.{ap, sym, _∙_}
+use mathlib.Core.Path.{ap, _∙_}
 use borrow.Author.Needs.{needs}
 use Rattle.fields.specs.Outcome.{numberOf}
 use Rattle.fields.specs.Fields.{writtenAt}

@@ -1,4 +1,4 @@
-use mathlib.Core.Path.{refl, ap, ap₂, _∙_}
+use mathlib.Core.Path.{ap, _∙_}
 use borrow.Author.Needs.{needs}
 use Rattle.reply.specs.Replies.{queryFuncOf}
 use Rattle.answers.specs.Replies.{funcWords}
