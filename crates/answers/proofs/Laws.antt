@@ -1,15 +1,16 @@
 -- Laws of an answer's words.
-use Prim.Native.Nat.{ℕ, suc, _+_, _*_, _<_}
-use mathlib.Core.Bool.{Bool, true}
+use Prim.Native.Nat.{ℕ, suc, _+_, _*_, _/_, _<_}
+use mathlib.Core.Bool.{Bool, true, false}
 use mathlib.Core.Path.{_≡_, refl, ap, _∙_}
 use mathlib.Core.List.{List, [], _∷_, _++_}
 use native.Mathlib.Nat.{add-zero}
 use native.Mathlib.Numerals.{add-one}
 use native.Mathlib.Omega.{arith}
+use borrow.Author.Tests.{lt-leb}
 use lib.ListN.{length, drop, getD}
 use lib.Seq.{drop-cons}
 use Rattle.fields.specs.Outcome.{pick}
-use Rattle.fields.specs.Fields.{writtenAt}
+use Rattle.fields.specs.Fields.{putAt, fits, writtenAt}
 use Rattle.fields.specs.declared.Order.the-variants.{Big}
 use Rattle.fields.proofs.Laws.{length-written}
 use Rattle.answers.specs.Words.{putWords, said, answer}
@@ -27,6 +28,14 @@ put-append s [] ys k = ap (λ (n : ℕ). putWords s n ys) (add-zero k)
 put-append s (x ∷ xs) ys k =
     let e : k + suc (length xs) ≡ suc k + length xs = omega arith in
     ap (λ (n : ℕ). putWords (putWords (writtenAt Big s (k * 8) 8 x) (suc k) xs) n ys) e ∙ put-append (writtenAt Big s (k * 8) 8 x) xs ys (suc k)
+
+-- words behind the end are left out
+pub put-beyond : (s ws : List ℕ) (k : ℕ) → length s / 8 < k → putWords s k ws ≡ s
+unfolding putWords
+put-beyond s [] k h = refl
+put-beyond s (w ∷ ws) k h =
+    let none : fits s (k * 8) 8 ≡ false = lt-leb (k * 8 + 8) (length s) (omega arith) in
+    ap (λ (b : Bool). putWords (pick b (putAt Big s (k * 8) 8 w) s) (suc k) ws) none ∙ put-beyond s ws (suc k) (omega arith)
 
 pub length-put : (s ws : List ℕ) (k : ℕ) → length (putWords s k ws) ≡ length s
 unfolding putWords

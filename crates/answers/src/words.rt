@@ -1,17 +1,18 @@
 // An answer as big-endian 64-bit words in a slice.
 ghost use mathlib.Core.Path.{_≡_};
-ghost use Prim.Native.Nat.{_+_, _≤_};
 ghost use lib.ListN.{length};
 ghost use Rattle.answers.specs.Words.{putWords, answer, said, bit};
 
 // The slice has no room for the answer.
 pub const SHORT: u32 = 21;
 
-// The words one after another, from word `at` of the slice on. No answer has so many words that a caller could not show this.
+// The words one after another, from word `at` of the slice on. Those that have no place there are left out, and so are all where `at` lies behind the slice.
 pub fn put(out: &mut [u8], at: usize, words: &[u64])
-    requires { ⌜ at + length (now words) ≤ 512 ⌝ }
     ensures { λ _. ⌜ now (out .exit) ≡ putWords (now (out .entry)) at (now (words .entry)) ⌝ }
 {
+    if out.len() / 8 < at {
+        return;
+    }
     let mut i: usize = 0;
     while i < words.len() {
         fields::set_be64(out, (at + i) * 8, words[i]);
@@ -21,7 +22,6 @@ pub fn put(out: &mut [u8], at: usize, words: &[u64])
 
 // The whole answer, or 21 and nothing where the slice is too short for it. The same holds of its words.
 pub fn give(out: &mut [u8], words: &[u64]) -> u32
-    requires { ⌜ length (now words) ≤ 512 ⌝ }
     ensures { λ r. ⌜ r ≡ said (length (now (words .entry))) (now (out .entry)) ⌝ }
     ensures { λ _. ⌜ now (out .exit) ≡ answer (length (now (words .entry))) (now (out .entry)) (now (words .entry)) ⌝ }
 {
