@@ -1,5 +1,6 @@
 // The session over C linkage: functions over numbers, byte slices and the caller's undo records. Between two calls the session is bytes that the caller keeps; a call
-// reads them, and writes them again unless it is refused. Each function gives 0, or document 01's number.
+// reads them, and writes them again unless it is refused: where they held a session, they then hold what the call has made of it. Each function gives 0, or document
+// 01's number.
 use undo::Undo;
 ghost use mathlib.Core.Path.{_≡_};
 ghost use lib.ListN.{length};
