@@ -32,7 +32,7 @@ use Rattle.calls_plan.specs.Counts.{Counted}
 use Rattle.calls_plan.specs.declared.Call.{Call}
 use Rattle.calls_plan.proofs.Counts.{call-counted, answer-counted}
 use Rattle.abi.specs.Turns.{freshCode, stateBy}
-use Rattle.abi.specs.Kept.{givenBy, nextBy, callNext, answerNext, wantedNext, heardNext, Keeps, Holds, Writes, Fresh}
+use Rattle.abi.specs.Kept.{givenBy, nextBy, callNext, answerNext, knownNext, Keeps, Holds, Writes, Fresh}
 use Rattle.abi.proofs.Turns.{good}
 
 -- a session of its type was written over another
@@ -129,19 +129,11 @@ short-holds d s t next e g = none-holds s t next 21 [] (sym (ap (keptAs (d .sess
 pub no-session-holds : (d : Decoded) (s t : List ℕ) (next : Session → Session) → keptOf d ≡ decodeOf s → d .outcome ≡ k.NoSession → Holds s t next
 no-session-holds d s t next e g = none-holds s t next 20 [] (sym (ap (keptAs (d .session)) g) ∙ e)
 
--- A CALL AND AN ANSWER by their kinds; where there is no such kind, the bytes are left
-pub wanted-holds : (c : Call) (z : Outcome Call) (y : List ℕ) (u : Top) (i o w s t : List ℕ) → value c ≡ z → Holds s t (callNext c y u i o w) → Holds s t (wantedNext z y u i o w)
-unfolding Holds wantedNext
-wanted-holds c z y u i o w s t e h x = subst (λ (v : Outcome Call). Keeps s t x (wantedNext v y u i o w x)) e (h x)
+-- A CALL OR AN ANSWER by its kind; where there is no such kind, the bytes are left
+pub known-holds : {A : Type 0} (a : A) (z : Outcome A) (next : A → Session → Session) (s t : List ℕ) → value a ≡ z → Holds s t (next a) → Holds s t (knownNext z next)
+unfolding Holds knownNext
+known-holds {A} a z next s t e h x = subst (λ (v : Outcome A). Keeps s t x (knownNext v next x)) e (h x)
 
-pub unwanted-holds : (z : Outcome Call) (n : ℕ) (vs y : List ℕ) (u : Top) (i o w s : List ℕ) → refused n vs ≡ z → Holds s s (wantedNext z y u i o w)
-unfolding Holds Keeps wantedNext
-unwanted-holds z n vs y u i o w s e x = subst (λ (v : Outcome Call). decodeOf s ≡ value x → decodeOf s ≡ value (wantedNext v y u i o w x)) e (λ d. d)
-
-pub heard-holds : (a : Answer) (z : Outcome Answer) (r : List ℕ) (u : Top) (i o w s t : List ℕ) → value a ≡ z → Holds s t (answerNext a r u i o w) → Holds s t (heardNext z r u i o w)
-unfolding Holds heardNext
-heard-holds a z r u i o w s t e h x = subst (λ (v : Outcome Answer). Keeps s t x (heardNext v r u i o w x)) e (h x)
-
-pub unheard-holds : (z : Outcome Answer) (n : ℕ) (vs r : List ℕ) (u : Top) (i o w s : List ℕ) → refused n vs ≡ z → Holds s s (heardNext z r u i o w)
-unfolding Holds Keeps heardNext
-unheard-holds z n vs r u i o w s e x = subst (λ (v : Outcome Answer). decodeOf s ≡ value x → decodeOf s ≡ value (heardNext v r u i o w x)) e (λ d. d)
+pub unknown-holds : {A : Type 0} (z : Outcome A) (n : ℕ) (vs : List ℕ) (next : A → Session → Session) (s : List ℕ) → refused n vs ≡ z → Holds s s (knownNext z next)
+unfolding Holds Keeps knownNext
+unknown-holds {A} z n vs next s e x = subst (λ (v : Outcome A). decodeOf s ≡ value x → decodeOf s ≡ value (knownNext v next x)) e (λ d. d)

@@ -38,13 +38,15 @@ unfoldable pub answerNext : Answer → (resource : List ℕ) → Top → (inbox 
 answerNext a r u i o w x = nextBy (answerable x a) (ltb (length w) 40) (answerOf x a r i o u) x
 
 -- of a kind that has no such number nothing is taken
-unfoldable pub wantedNext : Outcome Call → (input : List ℕ) → Top → (inbox outbox out : List ℕ) → Session → Session
-wantedNext (value c) y u i o w x = callNext c y u i o w x
-wantedNext (refused n vs) y u i o w x = x
+unfoldable pub knownNext : {A : Type 0} → Outcome A → (A → Session → Session) → Session → Session
+knownNext (value a) next x = next a x
+knownNext (refused n vs) next x = x
 
-unfoldable pub heardNext : Outcome Answer → (resource : List ℕ) → Top → (inbox outbox out : List ℕ) → Session → Session
-heardNext (value a) r u i o w x = answerNext a r u i o w x
-heardNext (refused n vs) r u i o w x = x
+abbrev pub wantedNext : Outcome Call → (input : List ℕ) → Top → (inbox outbox out : List ℕ) → Session → Session
+wantedNext z y u i o w = knownNext z (λ c. callNext c y u i o w)
+
+abbrev pub heardNext : Outcome Answer → (resource : List ℕ) → Top → (inbox outbox out : List ℕ) → Session → Session
+heardNext z r u i o w = knownNext z (λ a. answerNext a r u i o w)
 
 -- the same from numbers, with the caller's list: `hca_call`, `hca_answer`
 abbrev pub callNow : (kind op opMod inMod v : ℕ) → (input : List ℕ) → (list : List Undo) → (count : ℕ) → (inbox outbox out : List ℕ) → Session → Session

@@ -31,7 +31,7 @@ use Rattle.calls_plan.specs.Calls.{callable, callOf, callIn, callOut}
 use Rattle.calls_plan.specs.declared.Call.{Call as Made}
 use Rattle.abi.specs.Turns.{After, after, codeBy, taken, callKnown, answerKnown, called, answered}
 use Rattle.abi.specs.Calls.{requestOf, callFrom, wantedBy, made, heardBy, told}
-use Rattle.abi.specs.Kept.{givenBy, callNext, answerNext, wantedNext, heardNext, Keeps, Holds}
+use Rattle.abi.specs.Kept.{givenBy, callNext, answerNext, knownNext, wantedNext, heardNext, Keeps, Holds}
 use Rattle.abi.specs.Kept as k
 use Rattle.abi.proofs.Poll.{poll-is-whole}
 use Rattle.card.specs.Card.{Hold, World}
@@ -206,7 +206,7 @@ module _ (x : Stand) (s : Session) (e : Event) (y : Stand) (d : decodeOf (x .sta
 translate : (x : Stand) (s : Session) (c : Call) (i o : List ℕ) (l : List Undo) (n : ℕ) (w : List ℕ) (y : Stand) → decodeOf (x .state) ≡ value s
     → Step x s (record { call = c; inbox = i; outbox = o; list = l; count = n; out = w }) y
     → (g : v.Event) × v.Step (standOf x s) g (standOf y (nextBy c (record { call = c; inbox = i; outbox = o; list = l; count = n; out = w }) s))
-unfolding made wantedNext told heardNext
+unfolding made told knownNext
 translate x s (hcaCall j op m q val input) i o l n w y d st = by (callFrom j op m q val r) refl
   where
     r : Bool

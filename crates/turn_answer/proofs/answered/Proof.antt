@@ -1,7 +1,8 @@
 use mathlib.Core.List.{[]}
 use borrow.Author.Needs.{needs}
 use Rattle.abi.proofs.Calls.{by-heard}
-use Rattle.abi.proofs.Kept.{heard-holds, unheard-holds}
+use Rattle.abi.proofs.Kept.{known-holds, unknown-holds}
+use Rattle.abi.specs.Kept.{answerNext}
 use Rattle.words_calls.specs.Calls.{heardAs}
 use Rattle.fields.specs.Outcome.{value}
 use mathlib.Core.Path.{ap, sym, _∙_}
@@ -17,7 +18,7 @@ returns c =
     let known = sym (ap heardAs (c .before .before .before .before .before .before .before .before .before .before .before .before .before .before .x .given .1)) ∙ c .before .before .before .before .before .before .before .before .before .before .before .before .before .before .before .before .answer-from .ensures in
     let g = by-heard (value _) (p .resource .now) u (p .state .now) (p .inbox .now) (p .outbox .now) (p .out .now) known in (
       c .before .before .before .before .before .before .before .before .answer-told .ensures .0 ∙ g,
-      heard-holds _ _ (p .resource .now) u (p .inbox .now) (p .outbox .now) (p .out .now) (p .state .now) _ known (c .before .before .before .before .before .before .before .before .answer-told .ensures .1),
+      known-holds _ _ (λ x. answerNext x (p .resource .now) u (p .inbox .now) (p .outbox .now) (p .out .now)) (p .state .now) _ known (c .before .before .before .before .before .before .before .before .answer-told .ensures .1),
     )
 
 returns-2 : tie.Need-returns-2
@@ -28,7 +29,7 @@ returns-2 c = (
     c .before .match .keys2,
     c .enum-told .given .1,
   ),
-  unheard-holds _ 20 [] _ _ _ _ _ _ (sym (ap heardAs (c .enum-told .given .1)) ∙ c .before .before .answer-from .ensures),
+  unknown-holds _ 20 [] _ _ (sym (ap heardAs (c .enum-told .given .1)) ∙ c .before .before .answer-from .ensures),
 )
 
 pub answered-spec : {M : Type 1} → statement M

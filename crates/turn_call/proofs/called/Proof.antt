@@ -1,7 +1,8 @@
 use mathlib.Core.List.{[]}
 use borrow.Author.Needs.{needs}
 use Rattle.abi.proofs.Calls.{by-wanted}
-use Rattle.abi.proofs.Kept.{wanted-holds, unwanted-holds}
+use Rattle.abi.proofs.Kept.{known-holds, unknown-holds}
+use Rattle.abi.specs.Kept.{callNext}
 use Rattle.fields.specs.Outcome.{value}
 use mathlib.Core.Path.{ap, sym, _∙_}
 use Rattle.abi.specs.Calls.{made, callAs}
@@ -16,7 +17,7 @@ returns c =
     let known = sym (ap callAs (c .before .before .before .before .before .before .before .before .before .before .before .before .before .before .x .given .1)) ∙ c .before .before .before .before .before .before .before .before .before .before .before .before .before .before .before .before .call-from .ensures in
     let g = by-wanted (value _) (p .input .now) u (p .state .now) (p .inbox .now) (p .outbox .now) (p .out .now) known in (
       c .before .before .before .before .before .before .before .before .call-bytes .ensures .0 ∙ g,
-      wanted-holds _ _ (p .input .now) u (p .inbox .now) (p .outbox .now) (p .out .now) (p .state .now) _ known (c .before .before .before .before .before .before .before .before .call-bytes .ensures .1),
+      known-holds _ _ (λ x. callNext x (p .input .now) u (p .inbox .now) (p .outbox .now) (p .out .now)) (p .state .now) _ known (c .before .before .before .before .before .before .before .before .call-bytes .ensures .1),
     )
 
 returns-2 : tie.Need-returns-2
@@ -27,7 +28,7 @@ returns-2 c = (
     c .before .match .keys2,
     c .enum-told .given .1,
   ),
-  unwanted-holds _ 20 [] _ _ _ _ _ _ (sym (ap callAs (c .enum-told .given .1)) ∙ c .before .before .call-from .ensures),
+  unknown-holds _ 20 [] _ _ (sym (ap callAs (c .enum-told .given .1)) ∙ c .before .before .call-from .ensures),
 )
 
 pub called-spec : {M : Type 1} → statement M
