@@ -1,4 +1,5 @@
--- No call and no answer brings a count above its array: what is appended is appended where there is room. Every other step leaves the lists, or empties them.
+-- No call and no answer brings a count above its array: what is appended is appended where there is room. Every other step leaves the lists, or empties them. And beside it,
+-- no call but a quiesce makes a session silent.
 use Prim.Native.Nat.{ℕ, zero, suc}
 use native.Mathlib.Omega.{arith}
 use mathlib.Core.Bool.{Bool, true, false}
@@ -84,337 +85,374 @@ use Rattle.calls_plan.specs.Counts.{Counted}
 use Rattle.calls_plan.specs.declared.Call.{Call}
 use Rattle.calls_plan.specs.declared.Call.the-variants as kn
 
-abbrev In : Session → Type 0
-In s = Counted (s .books .lists)
+module _ (Q : Type 0) where
+  -- the counts, and whether the session is silent: Q is what the second stands under
+  abbrev Fact : Books → Type 0
+  Fact d = Counted (d .lists) × (Q → d .wire .silent ≡ false)
 
-abbrev After : Planned → Type 0
-After y = In (y .session)
+  abbrev In : Session → Type 0
+  In s = Fact (s .books)
 
--- ONE MORE of each, where there is room
-either : {A : Type 0} (P : A → Type 0) (t : Bool) (y z : A) → (t ≡ true → P y) → P z → P (pick t y z)
-either P true y z h d = h refl
-either P false y z h d = d
+  abbrev After : Planned → Type 0
+  After y = In (y .session)
 
-more-ranges : (l : Lists) (y : Icm) → Counted l → Counted (appended l y)
-more-ranges l y h = either Counted (ltb (l .ranges) 14) _ l (λ t. let r = ltb-true (l .ranges) 14 t in (omega arith, h .1)) h
+  -- ONE MORE of each, where there is room
+  either : {A : Type 0} (P : A → Type 0) (t : Bool) (y z : A) → (t ≡ true → P y) → P z → P (pick t y z)
+  either P true y z h d = h refl
+  either P false y z h d = d
 
-more-lends : (y : Buffer) (d : Books) → Counted (d .lists) → Counted (lentTo y d .lists)
-more-lends y d h = either (λ (z : Books). Counted (z .lists)) (ltb (d .lists .lends) 64) _ d (λ t. let r = ltb-true (d .lists .lends) 64 t in (h .0, omega arith)) h
+  more-ranges : (l : Lists) (y : Icm) → Counted l → Counted (appended l y)
+  more-ranges l y h = either Counted (ltb (l .ranges) 14) _ l (λ t. let r = ltb-true (l .ranges) 14 t in (omega arith, h .1)) h
 
-entered : (i : Info) (z : Area) (y : Buffer) (d : Books) → Counted (d .lists) → Counted (enters i z y d .lists)
-entered i a.Fa y d h = h
-entered i a.Aux y d h = h
-entered i (a.Range j) y d h = more-ranges (d .lists) _ h
+  more-lends : (y : Buffer) (d : Books) → Fact d → Fact (lentTo y d)
+  more-lends y d h = either Fact (ltb (d .lists .lends) 64) _ d (λ t. let r = ltb-true (d .lists .lends) 64 t in ((h .0 .0, omega arith), h .1)) h
 
-by-test : (t : Bool) (y z : Planned) → After y → After z → After (pick t y z)
-by-test t y z h d = either After t y z (λ r. h) d
+  entered : (i : Info) (z : Area) (y : Buffer) (d : Books) → Fact d → Fact (enters i z y d)
+  entered i a.Fa y d h = h
+  entered i a.Aux y d h = h
+  entered i (a.Range j) y d h = (more-ranges (d .lists) _ (h .0), h .1)
 
-by-hold : (x : Hold) (y : Buffer → Planned) (z : Planned) → ((d : Buffer) → After (y d)) → After z → After (onHold x y z)
-by-hold o.Absent y z h d = d
-by-hold (o.Held v) y z h d = h v
+  by-test : (t : Bool) (y z : Planned) → After y → After z → After (pick t y z)
+  by-test t y z h d = either After t y z (λ r. h) d
 
-by-outcome : (v : Outcome ℕ) (y : ℕ → Planned) (z : Planned) → ((i : ℕ) → After (y i)) → After z → After (byOutcome v y z)
-by-outcome (value i) y z h d = h i
-by-outcome (refused i vs) y z h d = d
+  by-hold : (x : Hold) (y : Buffer → Planned) (z : Planned) → ((d : Buffer) → After (y d)) → After z → After (onHold x y z)
+  by-hold o.Absent y z h d = d
+  by-hold (o.Held v) y z h d = h v
 
--- CLOSING
-none-left : (s : Session) (u : ℕ) → After (givenPlan s u)
-none-left s u = (omega arith, omega arith)
+  by-outcome : (v : Outcome ℕ) (y : ℕ → Planned) (z : Planned) → ((i : ℕ) → After (y i)) → After z → After (byOutcome v y z)
+  by-outcome (value i) y z h d = h i
+  by-outcome (refused i vs) y z h d = d
 
-module _ (s : Session) (h : In s) (u : ℕ) where
-  outbox-in : After (outboxPlan s u)
-  unfolding outboxPlan
-  outbox-in = by-hold (s .books .held .outbox) _ _ (λ d. h) (none-left s u)
+  -- CLOSING
+  none-left : (s : Session) → In s → (u : ℕ) → After (givenPlan s u)
+  none-left s h u = ((omega arith, omega arith), h .1)
 
-  inbox-in : After (inboxPlan s u)
-  unfolding inboxPlan
-  inbox-in = by-hold (s .books .held .inbox) _ _ (λ d. h) outbox-in
+  module _ (s : Session) (h : In s) (u : ℕ) where
+    outbox-in : After (outboxPlan s u)
+    unfolding outboxPlan
+    outbox-in = by-hold (s .books .held .outbox) _ _ (λ d. h) (none-left s h u)
 
-  fa-in : After (faPlan s u)
-  unfolding faPlan
-  fa-in = by-hold (s .books .held .fa) _ _ (λ d. h) inbox-in
+    inbox-in : After (inboxPlan s u)
+    unfolding inboxPlan
+    inbox-in = by-hold (s .books .held .inbox) _ _ (λ d. h) outbox-in
 
-  aux-in : After (auxPlan s u)
-  unfolding auxPlan
-  aux-in = by-hold (s .books .held .aux) _ _ (λ d. h) fa-in
+    fa-in : After (faPlan s u)
+    unfolding faPlan
+    fa-in = by-hold (s .books .held .fa) _ _ (λ d. h) inbox-in
 
-  icm-in : (i : ℕ) → After (icmPlan s i u)
-  unfolding icmPlan
-  icm-in i = by-test (ltb i (s .books .lists .ranges)) _ _ h aux-in
+    aux-in : After (auxPlan s u)
+    unfolding auxPlan
+    aux-in = by-hold (s .books .held .aux) _ _ (λ d. h) fa-in
 
-  lent-in : (i : ℕ) → After (lentPlan s i u)
-  unfolding lentPlan
-  lent-in i = by-test (ltb i (s .books .lists .lends)) _ _ h (icm-in 0)
+    icm-in : (i : ℕ) → After (icmPlan s i u)
+    unfolding icmPlan
+    icm-in i = by-test (ltb i (s .books .lists .ranges)) _ _ h aux-in
 
-  failed-in : After (failedPlan s u)
-  unfolding failedPlan
-  failed-in = by-test (s .books .wire .silent) _ _ h h
+    lent-in : (i : ℕ) → After (lentPlan s i u)
+    unfolding lentPlan
+    lent-in i = by-test (ltb i (s .books .lists .lends)) _ _ h (icm-in 0)
 
-stopped-in : (s : Session) → In s → (u : ℕ) → After (stoppedPlan s u)
-unfolding stoppedPlan
-stopped-in s h u = by-test (s .books .wire .silent) _ _ h (by-test (s .books .wire .running) _ _ h (lent-in (closesOf s c.Clean (s .books)) h u 0))
+    failed-in : After (failedPlan s u)
+    unfolding failedPlan
+    failed-in = by-test (s .books .wire .silent) _ _ h h
 
-unmap-fa-in : (s : Session) → In s → (u : ℕ) → After (unmapFaPlan s u)
-unfolding unmapFaPlan
-unmap-fa-in s h u = by-test (isHeld (s .books .held .fa)) _ _ h (stopped-in s h u)
+  stopped-in : (s : Session) → In s → (u : ℕ) → After (stoppedPlan s u)
+  unfolding stoppedPlan
+  stopped-in s h u = by-test (s .books .wire .silent) _ _ h (by-test (s .books .wire .running) _ _ h (lent-in (closesOf s c.Clean (s .books)) h u 0))
 
-unmap-aux-in : (s : Session) → In s → (u : ℕ) → After (unmapAuxPlan s u)
-unfolding unmapAuxPlan
-unmap-aux-in s h u = by-test (isHeld (s .books .held .aux)) _ _ h (unmap-fa-in s h u)
+  unmap-fa-in : (s : Session) → In s → (u : ℕ) → After (unmapFaPlan s u)
+  unfolding unmapFaPlan
+  unmap-fa-in s h u = by-test (isHeld (s .books .held .fa)) _ _ h (stopped-in s h u)
 
-unmap-in : (s : Session) → In s → (i u : ℕ) → After (unmapPlan s i u)
-unfolding unmapPlan
-unmap-in s h zero u = unmap-aux-in s h u
-unmap-in s h (suc i) u = h
+  unmap-aux-in : (s : Session) → In s → (u : ℕ) → After (unmapAuxPlan s u)
+  unfolding unmapAuxPlan
+  unmap-aux-in s h u = by-test (isHeld (s .books .held .aux)) _ _ h (unmap-fa-in s h u)
 
-hca-in : (s : Session) → In s → (u : ℕ) → After (closeHcaPlan s u)
-unfolding closeHcaPlan
-hca-in s h u = by-test (s .books .started) _ _ h (unmap-in s h (s .books .lists .ranges) u)
+  unmap-in : (s : Session) → In s → (i u : ℕ) → After (unmapPlan s i u)
+  unfolding unmapPlan
+  unmap-in s h zero u = unmap-aux-in s h u
+  unmap-in s h (suc i) u = h
 
-sent-in : (s : Session) → In s → (i : ℕ) (y : Top) → After (undoSend s i y)
-sent-in s h zero y = failed-in s h (y .count)
-sent-in s h (suc i) y = by-test (isReserved (y .op)) _ _ (failed-in s h (y .count)) h
+  hca-in : (s : Session) → In s → (u : ℕ) → After (closeHcaPlan s u)
+  unfolding closeHcaPlan
+  hca-in s h u = by-test (s .books .started) _ _ h (unmap-in s h (s .books .lists .ranges) u)
 
-undo-in : (s : Session) → In s → (i : ℕ) (y : Top) → After (undoPlan s i y)
-unfolding undoPlan
-undo-in s h i y = by-test (eqb (y .count) 0) _ _ (hca-in s h (y .count)) (sent-in s h i y)
+  sent-in : (s : Session) → In s → (i : ℕ) (y : Top) → After (undoSend s i y)
+  sent-in s h zero y = failed-in s h (y .count)
+  sent-in s h (suc i) y = by-test (isReserved (y .op)) _ _ (failed-in s h (y .count)) h
 
-stop-in : (s : Session) → In s → (y : Top) → After (stopPlan s y)
-unfolding stopPlan
-stop-in s h y = by-test (s .books .wire .broken) _ _ h (undo-in s h UNDOS y)
+  undo-in : (s : Session) → In s → (i : ℕ) (y : Top) → After (undoPlan s i y)
+  unfolding undoPlan
+  undo-in s h i y = by-test (eqb (y .count) 0) _ _ (hca-in s h (y .count)) (sent-in s h i y)
 
-quiesce-in : (s : Session) → In s → (y : Top) → After (quiescePlan s y)
-unfolding quiescePlan
-quiesce-in s h y = by-test (s .books .wire .broken) _ _ h (undo-in (silencedOf s) h UNDOS y)
+  stop-in : (s : Session) → In s → (y : Top) → After (stopPlan s y)
+  unfolding stopPlan
+  stop-in s h y = by-test (s .books .wire .broken) _ _ h (undo-in s h UNDOS y)
 
-close-in : (s : Session) → In s → (y : End) (top : Top) (st : Close) → After (closePlanAt s y top st)
-close-in s h y top (k.Undo i) = by-test (isDone (cmdIn y .result)) _ _ (undo-in (tookOf s (cmdIn y)) h i top) (failed-in (tookOf s (cmdIn y)) h (top .count))
-close-in s h y top k.CloseHca = by-test (isDone (cmdIn y .result)) _ _ (unmap-in (tookOf s (cmdIn y)) h (s .books .lists .ranges) (top .count)) (failed-in (tookOf s (cmdIn y)) h (top .count))
-close-in s h y top (k.Unmap i) = by-test (isDone (cmdIn y .result)) _ _ (unmap-in (tookOf s (cmdIn y)) h i (top .count)) (failed-in (tookOf s (cmdIn y)) h (top .count))
-close-in s h y top k.UnmapAux = by-test (isDone (cmdIn y .result)) _ _ (unmap-fa-in (tookOf s (cmdIn y)) h (top .count)) (failed-in (tookOf s (cmdIn y)) h (top .count))
-close-in s h y top k.UnmapFa = by-test (isDone (cmdIn y .result)) _ _ (stopped-in (tookOf s (cmdIn y)) h (top .count)) (failed-in (tookOf s (cmdIn y)) h (top .count))
-close-in s h y top k.Quiesce = h
-close-in s h y top k.Reset = by-test (isGood (resetIn y)) _ _ (lent-in (closesOf s c.Reset (s .books)) h (top .count) 0) h
-close-in s h y top (k.FreeLent i) = lent-in s h (top .count) i
-close-in s h y top (k.FreeIcm i) = icm-in s h (top .count) i
-close-in s h y top k.FreeAux = fa-in s h (top .count)
-close-in s h y top k.FreeFa = inbox-in s h (top .count)
-close-in s h y top k.FreeInbox = outbox-in s h (top .count)
-close-in s h y top k.FreeOutbox = none-left s (top .count)
-close-in s h y top k.Release = h
-close-in s h y top k.Restore = h
+  quiesce-in : (s : Session) → (Q → ⊥) → In s → (y : Top) → After (quiescePlan s y)
+  unfolding quiescePlan
+  quiesce-in s q h y = by-test (s .books .wire .broken) _ _ (h .0, λ z. absurd (q z)) (undo-in (silencedOf s) (h .0, λ z. absurd (q z)) UNDOS y)
 
--- A CLIENT'S CALL
-command-in : (s : Session) → In s → (y : _) (u : ℕ) → After (commandPlan s y u)
-unfolding commandPlan
-command-in s h y u = h
+  close-in : (s : Session) → In s → (y : End) (top : Top) (st : Close) → After (closePlanAt s y top st)
+  close-in s h y top (k.Undo i) = by-test (isDone (cmdIn y .result)) _ _ (undo-in (tookOf s (cmdIn y)) h i top) (failed-in (tookOf s (cmdIn y)) h (top .count))
+  close-in s h y top k.CloseHca = by-test (isDone (cmdIn y .result)) _ _ (unmap-in (tookOf s (cmdIn y)) h (s .books .lists .ranges) (top .count)) (failed-in (tookOf s (cmdIn y)) h (top .count))
+  close-in s h y top (k.Unmap i) = by-test (isDone (cmdIn y .result)) _ _ (unmap-in (tookOf s (cmdIn y)) h i (top .count)) (failed-in (tookOf s (cmdIn y)) h (top .count))
+  close-in s h y top k.UnmapAux = by-test (isDone (cmdIn y .result)) _ _ (unmap-fa-in (tookOf s (cmdIn y)) h (top .count)) (failed-in (tookOf s (cmdIn y)) h (top .count))
+  close-in s h y top k.UnmapFa = by-test (isDone (cmdIn y .result)) _ _ (stopped-in (tookOf s (cmdIn y)) h (top .count)) (failed-in (tookOf s (cmdIn y)) h (top .count))
+  close-in s h y top k.Quiesce = h
+  close-in s h y top k.Reset = by-test (isGood (resetIn y)) _ _ (lent-in (closesOf s c.Reset (s .books)) h (top .count) 0) h
+  close-in s h y top (k.FreeLent i) = lent-in s h (top .count) i
+  close-in s h y top (k.FreeIcm i) = icm-in s h (top .count) i
+  close-in s h y top k.FreeAux = fa-in s h (top .count)
+  close-in s h y top k.FreeFa = inbox-in s h (top .count)
+  close-in s h y top k.FreeInbox = outbox-in s h (top .count)
+  close-in s h y top k.FreeOutbox = none-left s h (top .count)
+  close-in s h y top k.Release = h
+  close-in s h y top k.Restore = h
 
-lend-in : (s : Session) → In s → (bytes u : ℕ) → After (lendPlan s bytes u)
-unfolding lendPlan
-lend-in s h bytes u = by-outcome (pagesFor bytes) _ _ (λ i. h) h
+  -- A CLIENT'S CALL
+  command-in : (s : Session) → In s → (y : _) (u : ℕ) → After (commandPlan s y u)
+  unfolding commandPlan
+  command-in s h y u = h
 
-ended-in : (s : Session) → In s → (y : Made) (u : ℕ) → After (lendEnded s y u)
-ended-in s h (m.Ready y) u = more-lends y (s .books) h
-ended-in s h (m.Refused y) u = h
+  lend-in : (s : Session) → In s → (bytes u : ℕ) → After (lendPlan s bytes u)
+  unfolding lendPlan
+  lend-in s h bytes u = by-outcome (pagesFor bytes) _ _ (λ i. h) h
 
-client-sent : (s : Session) → In s → (mark i : ℕ) (y : Top) → After (cl.undoSend s mark i y)
-client-sent s h mark zero y = h
-client-sent s h mark (suc i) y = by-test (isReserved (y .op)) _ _ h h
+  ended-in : (s : Session) → In s → (y : Made) (u : ℕ) → After (lendEnded s y u)
+  ended-in s h (m.Ready y) u = more-lends y (s .books) h
+  ended-in s h (m.Refused y) u = h
 
-undo-to-in : (s : Session) → In s → (mark i : ℕ) (y : Top) → After (cl.undoPlan s mark i y)
-unfolding cl.undoPlan
-undo-to-in s h mark i y = by-test (leb (y .count) mark) _ _ h (by-test (s .books .wire .broken) _ _ h (client-sent s h mark i y))
+  client-sent : (s : Session) → In s → (mark i : ℕ) (y : Top) → After (cl.undoSend s mark i y)
+  client-sent s h mark zero y = h
+  client-sent s h mark (suc i) y = by-test (isReserved (y .op)) _ _ h h
 
-broken-in : (r : CmdResult) (d : Books) → Counted (d .lists) → Counted (brokenBy r d .lists)
-broken-in r d h = either (λ (z : Books). Counted (z .lists)) (needsReset r) _ d (λ t. h) h
+  undo-to-in : (s : Session) → In s → (mark i : ℕ) (y : Top) → After (cl.undoPlan s mark i y)
+  unfolding cl.undoPlan
+  undo-to-in s h mark i y = by-test (leb (y .count) mark) _ _ h (by-test (s .books .wire .broken) _ _ h (client-sent s h mark i y))
 
-client-in : (s : Session) → In s → (y : End) (top : Top) (st : Client) → After (clientPlanAt s y top st)
-client-in s h y top (kc.Command z) = broken-in (cmdIn y .result) (tookOf s (cmdIn y) .books) h
-client-in s h y top kc.Lend = ended-in s h (madeIn y) (top .count)
-client-in s h y top (kc.UndoTo mark i) = by-test (isDone (cmdIn y .result)) _ _ (undo-to-in (tookOf s (cmdIn y)) h mark i top) h
+  broken-in : (r : CmdResult) (d : Books) → Fact d → Fact (brokenBy r d)
+  broken-in r d h = either Fact (needsReset r) _ d (λ t. h) h
 
--- OPENING
-fail-in : (s : Session) → In s → (y : Refusal) (top : Top) → After (failPlan s y top)
-unfolding failPlan
-fail-in s h y top = stop-in (n.withFailure s y) h top
+  client-in : (s : Session) → In s → (y : End) (top : Top) (st : Client) → After (clientPlanAt s y top st)
+  client-in s h y top (kc.Command z) = broken-in (cmdIn y .result) (tookOf s (cmdIn y) .books) h
+  client-in s h y top kc.Lend = ended-in s h (madeIn y) (top .count)
+  client-in s h y top (kc.UndoTo mark i) = by-test (isDone (cmdIn y .result)) _ _ (undo-to-in (tookOf s (cmdIn y)) h mark i top) h
 
-fail-by-in : (s : Session) → In s → (y : CmdResult) (top : Top) → After (failByPlan s y top)
-unfolding failByPlan
-fail-by-in s h y top = fail-in _ (broken-in y (s .books) h) _ top
+  -- OPENING
+  fail-in : (s : Session) → In s → (y : Refusal) (top : Top) → After (failPlan s y top)
+  unfolding failPlan
+  fail-in s h y top = stop-in (n.withFailure s y) h top
 
-make-in : (s : Session) → In s → (z : Area) (bytes : ℕ) (top : Top) → After (makePlan s z bytes top)
-unfolding makePlan
-make-in s h z bytes top = by-outcome (pagesFor bytes) _ _ (λ i. h) (fail-in s h x.Address top)
+  fail-by-in : (s : Session) → In s → (y : CmdResult) (top : Top) → After (failByPlan s y top)
+  unfolding failByPlan
+  fail-by-in s h y top = fail-in _ (broken-in y (s .books) h) _ top
 
-func-in : (s : Session) → In s → (top : Top) → After (funcPlan s top)
-unfolding funcPlan
-func-in s h top = by-test (eqb (s .info .cap .«num_sys_eqs») 0) _ _ h h
+  make-in : (s : Session) → In s → (z : Area) (bytes : ℕ) (top : Top) → After (makePlan s z bytes top)
+  unfolding makePlan
+  make-in s h z bytes top = by-outcome (pagesFor bytes) _ _ (λ i. h) (fail-in s h x.Address top)
 
-range-in : (s : Session) → In s → (i : ℕ) (top : Top) → After (nextRange s i top)
-unfolding nextRange
-range-in s h i top = by-test (ltb i 13) _ _ (make-in s h _ _ top) h
+  func-in : (s : Session) → In s → (top : Top) → After (funcPlan s top)
+  unfolding funcPlan
+  func-in s h top = by-test (eqb (s .info .cap .«num_sys_eqs») 0) _ _ h h
 
-mapped-in : (s : Session) → In s → (z : Area) (top : Top) → After (mappedPlan s z top)
-unfolding mappedPlan
-mapped-in s h a.Fa top = h
-mapped-in s h a.Aux top = make-in s h _ _ top
-mapped-in s h (a.Range i) top = range-in s h i top
+  range-in : (s : Session) → In s → (i : ℕ) (top : Top) → After (nextRange s i top)
+  unfolding nextRange
+  range-in s h i top = by-test (ltb i 13) _ _ (make-in s h _ _ top) h
 
-map-in : (s : Session) → In s → (z : Area) (y : Cutter) (top : Top) → After (mapPlan s z y top)
-unfolding mapPlan
-map-in s h z y top = by-test (eqb (y .left) 0) _ _ (mapped-in s h z top) h
+  mapped-in : (s : Session) → In s → (z : Area) (top : Top) → After (mappedPlan s z top)
+  unfolding mappedPlan
+  mapped-in s h a.Fa top = h
+  mapped-in s h a.Aux top = make-in s h _ _ top
+  mapped-in s h (a.Range i) top = range-in s h i top
 
-area-in : (s : Session) → In s → (z : Area) (y : Made) (top : Top) → After (areaPlan s z y top)
-area-in s h z (m.Ready y) top = map-in _ (entered (s .info) z y (s .books) h) z _ top
-area-in s h z (m.Refused y) top = fail-in s h _ top
+  map-in : (s : Session) → In s → (z : Area) (y : Cutter) (top : Top) → After (mapPlan s z y top)
+  unfolding mapPlan
+  map-in s h z y top = by-test (eqb (y .left) 0) _ _ (mapped-in s h z top) h
 
-layout-in : (s : Session) → In s → (y : Outcome Layout) (top : Top) → After (layoutPlan s y top)
-unfolding layoutPlan
-layout-in s h (value y) top = h
-layout-in s h (refused i vs) top = fail-in s h _ top
+  area-in : (s : Session) → In s → (z : Area) (y : Made) (top : Top) → After (areaPlan s z y top)
+  area-in s h z (m.Ready y) top = map-in _ (entered (s .info) z y (s .books) h) z _ top
+  area-in s h z (m.Refused y) top = fail-in s h _ top
 
-port-in : (s : Session) → In s → (i : ℕ) (top : Top) → After (portPlan s i top)
-unfolding portPlan
-port-in s h i top = by-test (ltb i (portsOf (s .info))) _ _ h (layout-in s h (profileOf (s .info .cap)) top)
+  layout-in : (s : Session) → In s → (y : Outcome Layout) (top : Top) → After (layoutPlan s y top)
+  unfolding layoutPlan
+  layout-in s h (value y) top = h
+  layout-in s h (refused i vs) top = fail-in s h _ top
 
-fw-in : (s : Session) → In s → (y : Outcome FwInfo) (z : FwInfo) (top : Top) → After (fwReplied s y z top)
-unfolding fwReplied
-fw-in s h (value y) z top = make-in _ h a.Fa _ top
-fw-in s h (refused i vs) z top = fail-in _ h _ top
+  port-in : (s : Session) → In s → (i : ℕ) (top : Top) → After (portPlan s i top)
+  unfolding portPlan
+  port-in s h i top = by-test (ltb i (portsOf (s .info))) _ _ h (layout-in s h (profileOf (s .info .cap)) top)
 
-cap-in : (s : Session) → In s → (y : Outcome DevCap) (top : Top) → After (capReplied s y top)
-unfolding capReplied
-cap-in s h (value y) top = port-in _ h 0 top
-cap-in s h (refused i vs) top = fail-in s h _ top
+  fw-in : (s : Session) → In s → (y : Outcome FwInfo) (z : FwInfo) (top : Top) → After (fwReplied s y z top)
+  unfolding fwReplied
+  fw-in s h (value y) z top = make-in _ h a.Fa _ top
+  fw-in s h (refused i vs) z top = fail-in _ h _ top
 
-replied-in : (s : Session) → In s → (i : ℕ) (y : Outcome PortInfo) (top : Top) → After (portReplied s i y top)
-unfolding portReplied
-replied-in s h i (value y) top = port-in _ h i top
-replied-in s h i (refused j vs) top = fail-in s h _ top
+  cap-in : (s : Session) → In s → (y : Outcome DevCap) (top : Top) → After (capReplied s y top)
+  unfolding capReplied
+  cap-in s h (value y) top = port-in _ h 0 top
+  cap-in s h (refused i vs) top = fail-in s h _ top
 
-func-replied-in : (s : Session) → In s → (y : Outcome FuncInfo) (top : Top) → After (funcReplied s y top)
-unfolding funcReplied
-func-replied-in s h (value y) top = h
-func-replied-in s h (refused i vs) top = fail-in s h _ top
+  replied-in : (s : Session) → In s → (i : ℕ) (y : Outcome PortInfo) (top : Top) → After (portReplied s i y top)
+  unfolding portReplied
+  replied-in s h i (value y) top = port-in _ h i top
+  replied-in s h i (refused j vs) top = fail-in s h _ top
 
-boot-in : (s : Session) → In s → (y : End) (out : List ℕ) (top : Top) (st : Boot) → After (bootPlanAt s y out top st)
-boot-in s h y out top b.QueryFw = by-test (isDone (cmdIn y .result)) _ _ (fw-in _ h (queryFwOf out (s .info .uar .index)) (fwHeld out (s .info .uar .index)) top) (fail-in _ (broken-in (cmdIn y .result) (tookOf s (cmdIn y) .books) h) _ top)
-boot-in s h y out top (b.Make z) = area-in s h z (madeIn y) top
-boot-in s h y out top (b.Map z v) = by-test (isDone (cmdIn y .result)) _ _ (map-in _ h z v top) (fail-by-in _ h _ top)
-boot-in s h y out top b.RunFw = by-test (isDone (cmdIn y .result)) _ _ h (fail-by-in _ h _ top)
-boot-in s h y out top b.ModStat = by-test (needsReset (cmdIn y .result)) _ _ (fail-by-in _ h _ top) h
-boot-in s h y out top b.DevCap = by-test (isDone (cmdIn y .result)) _ _ (cap-in _ h (capabilityOf out (s .info .uar .size)) top) (fail-by-in _ h _ top)
-boot-in s h y out top (b.Port i) = by-test (isDone (cmdIn y .result)) _ _ (replied-in _ h i (queryPortOf out i) top) (fail-by-in _ h _ top)
-boot-in s h y out top b.IcmSize = by-test (isDone (cmdIn y .result)) _ _ (make-in _ h a.Aux _ top) (fail-by-in _ h _ top)
-boot-in s h y out top b.InitHca = by-test (isDone (cmdIn y .result)) _ _ (func-in _ h top) (fail-by-in _ h _ top)
-boot-in s h y out top b.Func = by-test (isDone (cmdIn y .result)) _ _ (func-replied-in _ h (queryFuncOf out) top) (fail-by-in _ h _ top)
-boot-in s h y out top b.Adapter = h
+  func-replied-in : (s : Session) → In s → (y : Outcome FuncInfo) (top : Top) → After (funcReplied s y top)
+  unfolding funcReplied
+  func-replied-in s h (value y) top = h
+  func-replied-in s h (refused i vs) top = fail-in s h _ top
 
-attr-in : (s : Session) → In s → (y : Attributes) (top : Top) → After (n.attrPlan s y top)
-attr-in s h (at.Enabled v) top = h
-attr-in s h at.Refused top = h
+  boot-in : (s : Session) → In s → (y : End) (out : List ℕ) (top : Top) (st : Boot) → After (bootPlanAt s y out top st)
+  boot-in s h y out top b.QueryFw = by-test (isDone (cmdIn y .result)) _ _ (fw-in _ h (queryFwOf out (s .info .uar .index)) (fwHeld out (s .info .uar .index)) top) (fail-in _ (broken-in (cmdIn y .result) (tookOf s (cmdIn y) .books) h) _ top)
+  boot-in s h y out top (b.Make z) = area-in s h z (madeIn y) top
+  boot-in s h y out top (b.Map z v) = by-test (isDone (cmdIn y .result)) _ _ (map-in _ h z v top) (fail-by-in _ h _ top)
+  boot-in s h y out top b.RunFw = by-test (isDone (cmdIn y .result)) _ _ h (fail-by-in _ h _ top)
+  boot-in s h y out top b.ModStat = by-test (needsReset (cmdIn y .result)) _ _ (fail-by-in _ h _ top) h
+  boot-in s h y out top b.DevCap = by-test (isDone (cmdIn y .result)) _ _ (cap-in _ h (capabilityOf out (s .info .uar .size)) top) (fail-by-in _ h _ top)
+  boot-in s h y out top (b.Port i) = by-test (isDone (cmdIn y .result)) _ _ (replied-in _ h i (queryPortOf out i) top) (fail-by-in _ h _ top)
+  boot-in s h y out top b.IcmSize = by-test (isDone (cmdIn y .result)) _ _ (make-in _ h a.Aux _ top) (fail-by-in _ h _ top)
+  boot-in s h y out top b.InitHca = by-test (isDone (cmdIn y .result)) _ _ (func-in _ h top) (fail-by-in _ h _ top)
+  boot-in s h y out top b.Func = by-test (isDone (cmdIn y .result)) _ _ (func-replied-in _ h (queryFuncOf out) top) (fail-by-in _ h _ top)
+  boot-in s h y out top b.Adapter = h
 
-claim-in : (s : Session) → In s → (y : Claimed) (top : Top) → After (n.claimPlan s y top)
-claim-in s h l.Good top = h
-claim-in s h l.Refused top = h
+  attr-in : (s : Session) → In s → (y : Attributes) (top : Top) → After (n.attrPlan s y top)
+  attr-in s h (at.Enabled v) top = h
+  attr-in s h at.Refused top = h
 
-bar-in : (s : Session) → In s → (y : Found) (top : Top) → After (n.barPlan s y top)
-bar-in s h (u.Bar y) top = h
-bar-in s h u.Refused top = h
+  claim-in : (s : Session) → In s → (y : Claimed) (top : Top) → After (n.claimPlan s y top)
+  claim-in s h l.Good top = h
+  claim-in s h l.Refused top = h
 
-in-in : (s : Session) → In s → (y : Made) (top : Top) → After (n.inboxPlan s y top)
-in-in s h (m.Ready y) top = h
-in-in s h (m.Refused y) top = h
+  bar-in : (s : Session) → In s → (y : Found) (top : Top) → After (n.barPlan s y top)
+  bar-in s h (u.Bar y) top = h
+  bar-in s h u.Refused top = h
 
-out-in : (s : Session) → In s → (y : Made) (top : Top) → After (n.outboxPlan s y top)
-out-in s h (m.Ready y) top = h
-out-in s h (m.Refused y) top = by-hold (s .books .held .inbox) _ _ (λ d. h) (omega arith, omega arith)
+  in-in : (s : Session) → In s → (y : Made) (top : Top) → After (n.inboxPlan s y top)
+  in-in s h (m.Ready y) top = h
+  in-in s h (m.Refused y) top = h
 
-prepare-in : (s : Session) → In s → (y : End) (top : Top) (st : Prepare) → After (preparePlanAt s y top st)
-prepare-in s h y top p.Attributes = attr-in s h (attrIn y) top
-prepare-in s h y top p.Claim = claim-in s h (claimIn y) top
-prepare-in s h y top p.Reset = by-test (isGood (resetIn y)) _ _ h h
-prepare-in s h y top p.Bar = bar-in s h (barIn y) top
-prepare-in s h y top p.Inbox = in-in s h (madeIn y) top
-prepare-in s h y top p.Outbox = out-in s h (madeIn y) top
-prepare-in s h y top (p.GiveInbox z) = (omega arith, omega arith)
-prepare-in s h y top p.Look = h
+  out-in : (s : Session) → In s → (y : Made) (top : Top) → After (n.outboxPlan s y top)
+  out-in s h (m.Ready y) top = h
+  out-in s h (m.Refused y) top = by-hold (s .books .held .inbox) _ _ (λ d. h) ((omega arith, omega arith), h .1)
 
--- WHAT IS WRITTEN before the next question leaves the lists
-lists-boot : (s : Session) → In s → (y : Listed) (st : Boot) → In (listsBoot s y st)
-lists-boot s h y b.QueryFw = h
-lists-boot s h y (b.Make v) = h
-lists-boot s h y (b.Map v r) = h
-lists-boot s h y b.RunFw = h
-lists-boot s h y b.ModStat = h
-lists-boot s h y b.DevCap = h
-lists-boot s h y (b.Port v) = h
-lists-boot s h y b.IcmSize = h
-lists-boot s h y b.InitHca = h
-lists-boot s h y b.Func = h
-lists-boot s h y b.Adapter = h
+  prepare-in : (s : Session) → In s → (y : End) (top : Top) (st : Prepare) → After (preparePlanAt s y top st)
+  prepare-in s h y top p.Attributes = attr-in s h (attrIn y) top
+  prepare-in s h y top p.Claim = claim-in s h (claimIn y) top
+  prepare-in s h y top p.Reset = by-test (isGood (resetIn y)) _ _ h h
+  prepare-in s h y top p.Bar = bar-in s h (barIn y) top
+  prepare-in s h y top p.Inbox = in-in s h (madeIn y) top
+  prepare-in s h y top p.Outbox = out-in s h (madeIn y) top
+  prepare-in s h y top (p.GiveInbox z) = ((omega arith, omega arith), h .1)
+  prepare-in s h y top p.Look = h
 
-lists-in : (s : Session) → In s → (y : Listed) (st : Stage) → In (listsAt s y st)
-lists-in s h y g.Fresh = h
-lists-in s h y (g.Open v) = h
-lists-in s h y g.Ended = h
-lists-in s h y (g.Prepare v) = h
-lists-in s h y (g.Boot v) = lists-boot s h y v
-lists-in s h y (g.Client v) = h
-lists-in s h y (g.Close v) = h
+  -- WHAT IS WRITTEN before the next question leaves the lists
+  lists-boot : (s : Session) → In s → (y : Listed) (st : Boot) → In (listsBoot s y st)
+  lists-boot s h y b.QueryFw = h
+  lists-boot s h y (b.Make v) = h
+  lists-boot s h y (b.Map v r) = h
+  lists-boot s h y b.RunFw = h
+  lists-boot s h y b.ModStat = h
+  lists-boot s h y b.DevCap = h
+  lists-boot s h y (b.Port v) = h
+  lists-boot s h y b.IcmSize = h
+  lists-boot s h y b.InitHca = h
+  lists-boot s h y b.Func = h
+  lists-boot s h y b.Adapter = h
 
-filled-in : (x : Fill) (s : Session) (i : List ℕ) → In s → In (filled x s i)
-filled-in w.Nothing s i h = h
-filled-in w.Outbox s i h = h
-filled-in (w.List v) s i h = either In (eqb (length i) 4096) (lists s (listedOf 63 256 v)) s (λ t. lists-in s h (listedOf 63 256 v) (s .stage)) h
-filled-in w.ModStat s i h = h
-filled-in w.InitHca s i h = h
+  lists-in : (s : Session) → In s → (y : Listed) (st : Stage) → In (listsAt s y st)
+  lists-in s h y g.Fresh = h
+  lists-in s h y (g.Open v) = h
+  lists-in s h y g.Ended = h
+  lists-in s h y (g.Prepare v) = h
+  lists-in s h y (g.Boot v) = lists-boot s h y v
+  lists-in s h y (g.Client v) = h
+  lists-in s h y (g.Close v) = h
 
--- A STEP
-plan-in : (s : Session) → In s → (y : End) (out : List ℕ) (top : Top) (st : Stage) → After (planAt s y out top st)
-unfolding preparePlan bootPlan clientPlan closePlan
-plan-in s h y out top g.Fresh = h
-plan-in s h y out top (g.Open v) = h
-plan-in s h y out top g.Ended = h
-plan-in s h y out top (g.Prepare v) = prepare-in s h y top v
-plan-in s h y out top (g.Boot v) = boot-in s h y out top v
-plan-in s h y out top (g.Client v) = client-in s h y top v
-plan-in s h y out top (g.Close v) = close-in s h y top v
+  filled-in : (x : Fill) (s : Session) (i : List ℕ) → In s → In (filled x s i)
+  filled-in w.Nothing s i h = h
+  filled-in w.Outbox s i h = h
+  filled-in (w.List v) s i h = either In (eqb (length i) 4096) (lists s (listedOf 63 256 v)) s (λ t. lists-in s h (listedOf 63 256 v) (s .stage)) h
+  filled-in w.ModStat s i h = h
+  filled-in w.InitHca s i h = h
 
-turn-in : (s : Session) → In s → (v : Answer) (x : Work) (i out : List ℕ) (top : Top) (n : Ending) → In (stepTurn s v x i out top n .session)
-turn-in s h v x i out top e.Going = h
-turn-in s h v x i out top (e.Ended y) = filled-in (planAt (withWork s x) y out top (s .stage) .fill) _ i (plan-in (withWork s x) h y out top (s .stage))
+  -- A STEP
+  plan-in : (s : Session) → In s → (y : End) (out : List ℕ) (top : Top) (st : Stage) → After (planAt s y out top st)
+  unfolding preparePlan bootPlan clientPlan closePlan
+  plan-in s h y out top g.Fresh = h
+  plan-in s h y out top (g.Open v) = h
+  plan-in s h y out top g.Ended = h
+  plan-in s h y out top (g.Prepare v) = prepare-in s h y top v
+  plan-in s h y out top (g.Boot v) = boot-in s h y out top v
+  plan-in s h y out top (g.Client v) = client-in s h y top v
+  plan-in s h y out top (g.Close v) = close-in s h y top v
+
+  turn-in : (s : Session) → In s → (v : Answer) (x : Work) (i out : List ℕ) (top : Top) (n : Ending) → In (stepTurn s v x i out top n .session)
+  turn-in s h v x i out top e.Going = h
+  turn-in s h v x i out top (e.Ended y) = filled-in (planAt (withWork s x) y out top (s .stage) .fill) _ i (plan-in (withWork s x) h y out top (s .stage))
+
+  pub step-fact : (s : Session) → Fact (s .books) → (v : Answer) (res i out : List ℕ) (top : Top) → Fact (stepOf s v res i out top .session .books)
+  unfolding stepOf
+  step-fact s h v res i out top = turn-in s h v (workStepOf (s .work) v res .work) i out top (workStepOf (s .work) v res .ending)
+
+  by-turn : (t : Bool) (y z : Turn) → In (y .session) → In (z .session) → In (pick t y z .session)
+  by-turn t y z h d = either (λ (v : Turn). In (v .session)) t y z (λ r. h) d
+
+  -- AN ANSWER
+  answer-fact : (s : Session) (v : Answer) (res i out : List ℕ) (top : Top) → Fact (s .books) → Fact (answerOf s v res i out top .session .books)
+  answer-fact s v res i out top h =
+      by-turn (answerable s v) _ (refusedOf s x.Wrong (top .count)) (by-turn (isLent i out top) _ (refusedOf s x.Short (top .count)) (step-fact s h v res i out top) h) h
+
+  -- A CALL
+  abbrev pub Loudly : Call → Type 0
+  Loudly kn.Open = Unit {0}
+  Loudly (kn.Command y) = Unit {0}
+  Loudly (kn.Lend bytes) = Unit {0}
+  Loudly (kn.UndoTo mark r) = Unit {0}
+  Loudly kn.Quiesce = Q → ⊥
+  Loudly kn.Close = Unit {0}
+
+  begun-in : (s : Session) → In s → (y : Call) (top : Top) → Loudly y → After (planFor s y top)
+  begun-in s h kn.Open top q = ((omega arith, omega arith), λ z. refl)
+  begun-in s h (kn.Command y) top q = command-in s h y (top .count)
+  begun-in s h (kn.Lend bytes) top q = lend-in s h bytes (top .count)
+  begun-in s h (kn.UndoTo mark r) top q = undo-to-in s h mark UNDOS top
+  begun-in s h kn.Quiesce top q = quiesce-in s q h top
+  begun-in s h kn.Close top q = stop-in (withoutFailure s) h top
+
+  pub begun-fact : (s : Session) → Fact (s .books) → (y : Call) (input i : List ℕ) (top : Top) → Loudly y → Fact (begunTurn s y input i top .session .books)
+  unfolding begunTurn
+  begun-fact s h y input i top q = filled-in (planFor s y top .fill) _ (readyIn y input i) (begun-in s h y top q)
+
+  unless-in : (z : Failure) (s : Session) (y : Turn) (u : ℕ) → In (y .session) → In s → In (unless z y (λ v. refusedOf s v u) .session)
+  unless-in f.Nothing s y u h d = h
+  unless-in (f.By v) s y u h d = d
+
+  call-fact : (s : Session) (y : Call) (input i out : List ℕ) (top : Top) → Loudly y → Fact (s .books) → Fact (callOf s y input i out top .session .books)
+  call-fact s y input i out top q h =
+      by-turn (callable s y) _ (refusedOf s x.Wrong (top .count))
+      (by-turn (lentFor y input i out top) _ (refusedOf s x.Short (top .count)) (unless-in (barred s y) s (begunTurn s y input i top) (top .count) (begun-fact s h y input i top q) h) h) h
+
+-- THE COUNTS alone
+abbrev counted : (s : Session) → Counted (s .books .lists) → Fact ⊥ (s .books)
+counted s h = (h, λ q. absurd q)
+
+all-loud : (y : Call) → Loudly ⊥ y
+all-loud kn.Open = tt
+all-loud (kn.Command y) = tt
+all-loud (kn.Lend bytes) = tt
+all-loud (kn.UndoTo mark r) = tt
+all-loud kn.Quiesce = λ q. q
+all-loud kn.Close = tt
 
 pub step-counted : (s : Session) → Counted (s .books .lists) → (v : Answer) (res i out : List ℕ) (top : Top) → Counted (stepOf s v res i out top .session .books .lists)
-unfolding stepOf
-step-counted s h v res i out top = turn-in s h v (workStepOf (s .work) v res .work) i out top (workStepOf (s .work) v res .ending)
+step-counted s h v res i out top = step-fact ⊥ s (counted s h) v res i out top .0
 
-by-turn : (t : Bool) (y z : Turn) → In (y .session) → In (z .session) → In (pick t y z .session)
-by-turn t y z h d = either (λ (v : Turn). In (v .session)) t y z (λ r. h) d
-
--- AN ANSWER
 pub answer-counted : (s : Session) (v : Answer) (res i out : List ℕ) (top : Top) → Counted (s .books .lists) → Counted (answerOf s v res i out top .session .books .lists)
-answer-counted s v res i out top h =
-    by-turn (answerable s v) _ (refusedOf s x.Wrong (top .count)) (by-turn (isLent i out top) _ (refusedOf s x.Short (top .count)) (step-counted s h v res i out top) h) h
-
--- A CALL
-begun-in : (s : Session) → In s → (y : Call) (top : Top) → After (planFor s y top)
-begun-in s h kn.Open top = (omega arith, omega arith)
-begun-in s h (kn.Command y) top = command-in s h y (top .count)
-begun-in s h (kn.Lend bytes) top = lend-in s h bytes (top .count)
-begun-in s h (kn.UndoTo mark r) top = undo-to-in s h mark UNDOS top
-begun-in s h kn.Quiesce top = quiesce-in s h top
-begun-in s h kn.Close top = stop-in (withoutFailure s) h top
+answer-counted s v res i out top h = answer-fact ⊥ s v res i out top (counted s h) .0
 
 pub begun-counted : (s : Session) → Counted (s .books .lists) → (y : Call) (input i : List ℕ) (top : Top) → Counted (begunTurn s y input i top .session .books .lists)
-unfolding begunTurn
-begun-counted s h y input i top = filled-in (planFor s y top .fill) _ (readyIn y input i) (begun-in s h y top)
-
-unless-in : (z : Failure) (s : Session) (y : Turn) (u : ℕ) → In (y .session) → In s → In (unless z y (λ v. refusedOf s v u) .session)
-unless-in f.Nothing s y u h d = h
-unless-in (f.By v) s y u h d = d
+begun-counted s h y input i top = begun-fact ⊥ s (counted s h) y input i top (all-loud y) .0
 
 pub call-counted : (s : Session) (y : Call) (input i out : List ℕ) (top : Top) → Counted (s .books .lists) → Counted (callOf s y input i out top .session .books .lists)
-call-counted s y input i out top h =
-    by-turn (callable s y) _ (refusedOf s x.Wrong (top .count))
-    (by-turn (lentFor y input i out top) _ (refusedOf s x.Short (top .count)) (unless-in (barred s y) s (begunTurn s y input i top) (top .count) (begun-counted s h y input i top) h) h) h
+call-counted s y input i out top h = call-fact ⊥ s y input i out top (all-loud y) (counted s h) .0

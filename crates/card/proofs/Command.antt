@@ -18,10 +18,10 @@ use Rattle.command.specs.declared.Catas.the-variants.{Known, Unknown}
 use Rattle.command.specs.declared.CmdResult.{CmdResult}
 use Rattle.command.specs.declared.CmdResult.the-variants as r
 use Rattle.command.specs.declared.CmdEnd.{CmdEnd}
-use Rattle.card.specs.Card.{Held, Mail, Command, Card, effect, result, same, ends, goOf, tbitOf, statusOf, written, begin, put, store, take, Shows, Takes, Host, World, WorldStep, mailAt, IsMap, kind, StandsAt, Posts}
+use Rattle.card.specs.Card.{Held, Mail, Command, Card, effect, result, same, ends, goOf, tbitOf, statusOf, written, begin, put, store, take, Shows, Takes, Host, Ours, World, WorldStep, mailAt, IsMap, Carries, kind, StandsAt, Posts}
 use Rattle.card.specs.Safe.{Safe}
 use Rattle.card.proofs.Sequence.{safe-pick}
-use Rattle.card.specs.Known.{During, Fits, Going, Loose, Or, Out, Over, Quiet, Stable, Within, postedAs}
+use Rattle.card.specs.Known.{Carried, During, Fits, Going, Loose, Or, Out, Over, Quiet, Stable, Within, postedAs}
 use Rattle.card.proofs.Bools.{or-left, or-right}
 
 -- nothing is pending, and the registers hold f
@@ -185,7 +185,7 @@ module _ (catas : Catas) (i : List ℕ) (t : Bool) (o : Post) (H : Held → Type
       at failed v st = (st .1 ∙ f, bus (v .card) (stable (w .card) (v .card) (st .0) j))
 
   -- a register is written
-  safe-write : (x y : ℕ) (e : CmdEnd) (k : Script CmdEnd) (I J : Card → Type 1) (w : World) → Stable I → Stable J → y < 2 ^ 32 → (x ≡ 0x80698 → Posts (w .card) y)
+  safe-write : (x y : ℕ) (e : CmdEnd) (k : Script CmdEnd) (I J : Card → Type 1) (w : World) → Stable I → Stable J → y < 2 ^ 32 → (x ≡ 0x80698 → Posts w y)
       → ((c : Card) → I c → J (take c 0 x y)) → ((c : Card) → I c → Out p H Q (e .result) c) → ((c : Card) → J c → Out p H Q (e .result) c) → w .host ≡ l → I (w .card)
       → ((v : World) → v .host ≡ l → J (v .card) → Safe i v k CmdPost) → Safe i w (ask (write 0 x y) (onWrite e k)) CmdPost
   safe-write x y e k I J w stable stableJ small posts takes busI busJ f j next = ((small, λ _ z. posts z), at)
@@ -289,32 +289,35 @@ module _ (catas : Catas) (i : List ℕ) (t : Bool) (o : Post) (H : Held → Type
         subst (λ (b : Bool). Going p h (pick b (begin c (written c go)) c)) (sym (go-of t (o .«op_mod») (o .op) (fits .op) (fits .opMod)))
         (inl (ap some e, ap (λ (q : Command). some (q .tbit)) e, j .0 .1))
 
-    posts : (f : ℕ → ℕ) → Fits o (mailAt l i) → (c : Card) → Ready (filled o f) c → Posts c go
-    posts f fits c j = (
-      j .0 .0,
-      subst (λ (q : Command). IsMap (kind (q .opcode)) → StandsAt (q .mail .inbox) (q .inParam)) (sym (written-is t o (mailAt l i) c f fits (j .0 .2) (j .1))) (fits .addressed),
-    )
+    posts : (f : ℕ → ℕ) → Fits o (mailAt l i) → Carried o l i → (w : World) → w .host ≡ l → Ready (filled o f) (w .card) → Posts w go
+    posts f fits car w e j =
+        let q = sym (written-is t o (mailAt l i) (w .card) f fits (j .0 .2) (j .1)) in
+        record {
+          idle = j .0 .0;
+          addressed = subst (λ (c : Command). IsMap (kind (c .opcode)) → StandsAt (c .mail .inbox) (c .inParam)) q (fits .addressed);
+          carried = subst (λ (c : Command). (d : ℕ) → Carries c d → Ours (w .host) d) q (subst (λ (k : Host). (d : ℕ) → Carries p d → Ours k d) (sym e) car);
+        }
 
-    safe-start : (f : ℕ → ℕ) → Fits o (mailAt l i) → (w : World) → w .host ≡ l → Ready (filled o f) (w .card) → Safe i w (start catas i t o) CmdPost
+    safe-start : (f : ℕ → ℕ) → Fits o (mailAt l i) → Carried o l i → (w : World) → w .host ≡ l → Ready (filled o f) (w .card) → Safe i w (start catas i t o) CmdPost
     unfolding start
-    safe-start f fits w e j =
+    safe-start f fits car w e j =
         safe-write 0x80698 go _ _ (Ready (filled o f)) (Going p h) w (ready-stable (filled o f)) (going-stable p h) (go-small t (o .«op_mod») (o .op) (fits .op) (fits .opMod))
-        (λ z. posts f fits (w .card) j) (begun f fits)
+        (λ z. posts f fits car w e j) (begun f fits)
         (λ c m. at-bus (filled o f) c (m .0)) (λ c g. inr (h, x, g)) e j
         (λ v d g. safe-poll STALLS 0 v d g)
 
-    safe-fenced : (f : ℕ → ℕ) → Fits o (mailAt l i) → (w : World) → w .host ≡ l → At h (filled o f) (w .card) → Safe i w (fencing catas i t o) CmdPost
+    safe-fenced : (f : ℕ → ℕ) → Fits o (mailAt l i) → Carried o l i → (w : World) → w .host ≡ l → At h (filled o f) (w .card) → Safe i w (fencing catas i t o) CmdPost
     unfolding fencing
-    safe-fenced f fits w e j = (
+    safe-fenced f fits car w e j = (
       refl,
       λ z v st.
-          safe-start f fits v (st .1 ∙ e)
+          safe-start f fits car v (st .1 ∙ e)
           (subst (Ready (filled o f)) (sym (st .0 .2)) (at-stable h (filled o f) (w .card) (st .0 .0) (st .0 .1) j, ap (λ (k : Host). mailAt k i) e)),
     )
 
-    safe-post : Fits o (mailAt l i) → (w : World) → w .host ≡ l → At h (w .card .registers) (w .card) → Safe i w (writeAll catas i t 0x00 (words o) (fencing catas i t o)) CmdPost
+    safe-post : Fits o (mailAt l i) → Carried o l i → (w : World) → w .host ≡ l → At h (w .card .registers) (w .card) → Safe i w (writeAll catas i t 0x00 (words o) (fencing catas i t o)) CmdPost
     unfolding writeAll
-    safe-post fits w e j =
+    safe-post fits car w e j =
         let a = fits .inParam in let b = fits .outParam in
         safe-fill 0x80680 _ _ _ w refl (let g : o .«in_param» / 2 ^ 32 < 2 ^ 32 = omega (arith, a) in g) (λ c. refl) e j (λ w1 e1 j1.
         safe-fill 0x80684 _ _ _ w1 refl (let g : o .«in_param» % 2 ^ 32 < 2 ^ 32 = omega arith in g) (λ c. refl) e1 j1 (λ w2 e2 j2.
@@ -322,13 +325,13 @@ module _ (catas : Catas) (i : List ℕ) (t : Bool) (o : Post) (H : Held → Type
         safe-fill 0x8068c _ _ _ w3 refl (let g : o .«out_param» / 2 ^ 32 < 2 ^ 32 = omega (arith, b) in g) (λ c. refl) e3 j3 (λ w4 e4 j4.
         safe-fill 0x80690 _ _ _ w4 refl (let g : o .«out_param» % 2 ^ 32 < 2 ^ 32 = omega arith in g) (λ c. refl) e4 j4 (λ w5 e5 j5.
         safe-fill 0x80694 _ _ _ w5 refl (let g : 0xffff0000 < 2 ^ 32 = omega arith in g) (λ c. refl) e5 j5 (λ w6 e6 j6.
-        safe-fenced (w .card .registers) fits w6 e6 j6))))))
+        safe-fenced (w .card .registers) fits car w6 e6 j6))))))
 
   -- Whatever was pending before it, and whatever was held.
-  pub safe-command : Fits o (mailAt l i) → (w : World) → w .host ≡ l → Within H Q (w .card) → Safe i w (command catas i t o) CmdPost
+  pub safe-command : Fits o (mailAt l i) → Carried o l i → (w : World) → w .host ≡ l → Within H Q (w .card) → Safe i w (command catas i t o) CmdPost
   unfolding command
-  safe-command fits w e j =
+  safe-command fits car w e j =
       safe-read 0x18 _ _ (Within H Q) w (within-stable H Q) (λ c m. inl m) e j (λ v a f m shows.
       safe-pick i (pendingIn a t) _ _ v CmdPost
       (λ q. (f, m))
-      (λ q. safe-post (v .card .held) (m .now) fits v f (posted (v .card) t a (shows refl) q .0, refl, refl)))
+      (λ q. safe-post (v .card .held) (m .now) fits car v f (posted (v .card) t a (shows refl) q .0, refl, refl)))

@@ -16,11 +16,11 @@ use Rattle.buffer.specs.declared.Fault.{Fault}
 use Rattle.buffer.specs.declared.Fault.the-variants as f
 use Rattle.buffer.specs.declared.Made.{Made}
 use Rattle.buffer.specs.declared.Made.the-variants as m
-use Rattle.card.specs.Card.{Card, put, Hold, Host, Meets, On, orElse, second, mapAt, unmapAll, handOut, handBack, MayUse, World, WorldStep}
+use Rattle.card.specs.Card.{Card, put, Hold, Deal, back, standing, Host, Meets, On, orElse, second, mapAt, unmapAll, handOut, handBack, MayUse, World, WorldStep}
 use Rattle.card.specs.Safe.{Safe}
 use Rattle.card.specs.Owns.{Each, Pairwise, spotOf, holdOf, InBooks, Apart, Owns}
 use Rattle.card.proofs.Sequence.{safe-weaken, safe-pick}
-use Rattle.card.proofs.Owns.{put-same, put-other, each-map, each-both, owns-use}
+use Rattle.card.proofs.Owns.{put-same, put-other, each-map, each-both, owns-use, owns-none, out-same, out-other, back-same, back-other}
 use Rattle.card.specs.Known.{Stable}
 use Rattle.card.proofs.Bools.{and-left, and-right}
 
@@ -46,17 +46,21 @@ module _ (i : List ℕ) (base : ℕ → Option Hold) (bs : List Buffer) (I : Car
   -- the handle is new, and behind it are pages that are mapped so
   record Extra (h n : ℕ) (ss us : List Spot) (k : Host) : Type 0 where
     pub this : k .hand h ≡ some (record { pages = n; mapped = ss; unmapped = us })
+    pub given : standing h (k .log) ≡ some n
     pub own : Each (λ b. k .hand (b .handle) ≡ some (holdOf b)) bs
+    pub dealt : Each (λ b. standing (b .handle) (k .log) ≡ some (b .pages)) bs
     pub new : Each (λ b. base (b .handle) ≡ none) bs
     pub apart : Pairwise Apart bs
     pub differ : Each (λ b. h ≡ b .handle → ⊥) bs
     pub fresh : base h ≡ none
-    pub others : (x : ℕ) → (x ≡ h → ⊥) → Each (λ b. x ≡ b .handle → ⊥) bs → k .hand x ≡ base x
+    pub others : (x : ℕ) → (x ≡ h → ⊥) → Each (λ b. x ≡ b .handle → ⊥) bs → (k .hand x ≡ base x) × (standing x (k .log) ≡ none)
 
   -- what stands behind that handle is changed
   change : (h n : ℕ) (ss us ss′ us′ : List Spot) (k : Host) (y : Option Hold) (j : Host) → Extra h n ss us k → y ≡ some (record { pages = n; mapped = ss′; unmapped = us′ })
-      → j .hand ≡ put (k .hand) h y → Extra h n ss′ us′ j
-  change h n ss us ss′ us′ k y j x e q = record {
+      → j .hand ≡ put (k .hand) h y → j .log ≡ k .log → Extra h n ss′ us′ j
+  change h n ss us ss′ us′ k y j x e q l = record {
+    given = ap (standing h) l ∙ x .given;
+    dealt = subst (λ (z : List Deal). Each (λ b. standing (b .handle) z ≡ some (b .pages)) bs) (sym l) (x .dealt);
     this = ap (λ (f : ℕ → Option Hold). f h) q ∙ put-same (k .hand) h y h refl ∙ e;
     own = each-both (λ b. h ≡ b .handle → ⊥) (λ b. k .hand (b .handle) ≡ some (holdOf b)) _
         (λ b d z. ap (λ (f : ℕ → Option Hold). f (b .handle)) q ∙ put-other (k .hand) h y (b .handle) (λ t. d (sym t)) ∙ z) bs (x .differ) (x .own);
@@ -64,7 +68,7 @@ module _ (i : List ℕ) (base : ℕ → Option Hold) (bs : List Buffer) (I : Car
     apart = x .apart;
     differ = x .differ;
     fresh = x .fresh;
-    others = λ a d z. ap (λ (f : ℕ → Option Hold). f a) q ∙ put-other (k .hand) h y a d ∙ x .others a d z;
+    others = λ a d z. let o = x .others a d z in (ap (λ (f : ℕ → Option Hold). f a) q ∙ put-other (k .hand) h y a d ∙ o .0, ap (standing a) l ∙ o .1);
   }
 
   -- and it is given back
@@ -72,14 +76,15 @@ module _ (i : List ℕ) (base : ℕ → Option Hold) (bs : List Buffer) (I : Car
   dropped h n ss us k x = record {
     own = each-both (λ b. h ≡ b .handle → ⊥) (λ b. k .hand (b .handle) ≡ some (holdOf b)) _ (λ b d z. put-other (k .hand) h none (b .handle) (λ t. d (sym t)) ∙ z) bs
         (x .differ) (x .own);
+    dealt = each-both (λ b. h ≡ b .handle → ⊥) (λ b. standing (b .handle) (k .log) ≡ some (b .pages)) _ (λ b d z. back-other (b .handle) h n (k .log) (λ t. d (sym t)) ∙ z) bs (x .differ) (x .dealt);
     new = x .new;
     apart = x .apart;
     others = λ a away. rest a away (eqb a h) refl;
   }
     where
-      rest : (a : ℕ) → Each (λ b. a ≡ b .handle → ⊥) bs → (t : Bool) → eqb a h ≡ t → handBack k h n .hand a ≡ base a
-      rest a away true e = put-same (k .hand) h none a (eqb-true a h e) ∙ sym (ap base (eqb-true a h e) ∙ x .fresh)
-      rest a away false e = put-other (k .hand) h none a (eqb-false a h e) ∙ x .others a (eqb-false a h e) away
+      rest : (a : ℕ) → Each (λ b. a ≡ b .handle → ⊥) bs → (t : Bool) → eqb a h ≡ t → (handBack k h n .hand a ≡ base a) × (standing a (back h n ∷ k .log) ≡ none)
+      rest a away true e = let q = eqb-true a h e in (put-same (k .hand) h none a q ∙ sym (ap base q ∙ x .fresh), back-same a h n (k .log) q)
+      rest a away false e = let q = eqb-false a h e in let o = x .others a q away in (put-other (k .hand) h none a q ∙ o .0, back-other a h n (k .log) q ∙ o .1)
 
   -- the card may not use an address that the host gave while the buffers were in use
   abbrev New : Spot → Type 0
@@ -87,11 +92,11 @@ module _ (i : List ℕ) (base : ℕ → Option Hold) (bs : List Buffer) (I : Car
 
   safe-give-up : (h n : ℕ) (x : Fault) (s : Spot) (w : World) → Extra h n (s ∷ []) [] (w .host) → New s → I (w .card) → Safe i w (release h n (m.Refused x)) (Some n)
   safe-give-up h n x s w held new j = (
-    record { hold = record { pages = n; mapped = s ∷ []; unmapped = [] }; handed = held .this; unused = λ d z u. no (w .card) j d z u },
+    record { hold = record { pages = n; mapped = s ∷ []; unmapped = [] }; handed = held .this; own = held .given; unused = λ d z u. no (w .card) j d z u },
     λ r v st.
-        let held1 = change h n (s ∷ []) [] [] (s ∷ []) (w .host) (unmapAll (w .host .hand h)) (v .host) held (ap unmapAll (held .this)) (ap (λ (k : Host). k .hand) (st .1)) in
+        let held1 = change h n (s ∷ []) [] [] (s ∷ []) (w .host) (unmapAll (w .host .hand h)) (v .host) held (ap unmapAll (held .this)) (ap (λ (k : Host). k .hand) (st .1)) (ap (λ (k : Host). k .log) (st .1)) in
         let j1 = stable (w .card) (v .card) (st .0) j in (
-          (record { hold = record { pages = n; mapped = []; unmapped = s ∷ [] }; handed = held1 .this; unused = λ d z u. no (v .card) j1 d z u }, refl),
+          (record { hold = record { pages = n; mapped = []; unmapped = s ∷ [] }; handed = held1 .this; own = held1 .given; unused = λ d z u. no (v .card) j1 d z u }, refl),
           λ r2 u st2. (
             subst (Owns base bs) (sym (st2 .1)) (dropped h n [] (s ∷ []) (v .host) held1),
             stable (v .card) (u .card) (st2 .0) j1,
@@ -108,6 +113,7 @@ module _ (i : List ℕ) (base : ℕ → Option Hold) (bs : List Buffer) (I : Car
   booked : (h n : ℕ) (s : Spot) (k : Host) → Extra h n (s ∷ []) [] k → New s → s .bytes ≡ n * 4096 → Owns base (record { handle = h; dev = s .address; pages = n } ∷ bs) k
   booked h n s k x new e = record {
     own = (x .this ∙ ap (λ (z : Spot). some (record { pages = n; mapped = z ∷ []; unmapped = [] })) (sym (spot-is h n s e)), x .own);
+    dealt = (x .given, x .dealt);
     new = (x .fresh, x .new);
     apart = (far bs (λ d z. z) (x .differ), x .apart);
     others = λ a away. x .others a (away .0) (away .1);
@@ -126,6 +132,7 @@ module _ (i : List ℕ) (base : ℕ → Option Hold) (bs : List Buffer) (I : Car
       record {
         hold = record { pages = n; mapped = []; unmapped = [] };
         handed = ap (λ (k : Host). k .hand h) (st .1) ∙ held .this;
+        own = ap (λ (k : Host). standing h (k .log)) (st .1) ∙ held .given;
         unused = λ d z u. z;
       },
       refl,
@@ -138,7 +145,7 @@ module _ (i : List ℕ) (base : ℕ → Option Hold) (bs : List Buffer) (I : Car
   safe-spot h n w held x j (good s) v st = accepts (isPage (s .address) && endsWithin (s .address) (n * 4096)) refl
     where
       held1 : Extra h n (s ∷ []) [] (v .host)
-      held1 = change h n [] [] (s ∷ []) [] (w .host) (mapAt s (w .host .hand h)) (v .host) held (ap (mapAt s) (held .this)) (ap (λ (k : Host). k .hand) (st .1 .1))
+      held1 = change h n [] [] (s ∷ []) [] (w .host) (mapAt s (w .host .hand h)) (v .host) held (ap (mapAt s) (held .this)) (ap (λ (k : Host). k .hand) (st .1 .1)) (ap (λ (k : Host). k .log) (st .1 .1))
 
       j1 : I (v .card)
       j1 = stable (w .card) (v .card) (st .0) j
@@ -174,19 +181,21 @@ module _ (i : List ℕ) (base : ℕ → Option Hold) (bs : List Buffer) (I : Car
   handed : (h n : ℕ) (k : Host) → Owns base bs k → k .hand h ≡ none → Extra h n [] [] (handOut k h n)
   handed h n k x e = record {
     this = put-same (k .hand) h _ h refl;
+    given = out-same h n (k .log);
     own = each-both (λ b. h ≡ b .handle → ⊥) (λ b. k .hand (b .handle) ≡ some (holdOf b)) _ (λ b d z. put-other (k .hand) h _ (b .handle) (λ t. d (sym t)) ∙ z) bs differ (x .own);
+    dealt = each-both (λ b. h ≡ b .handle → ⊥) (λ b. standing (b .handle) (k .log) ≡ some (b .pages)) _ (λ b d z. out-other (b .handle) h n (k .log) (λ t. d (sym t)) ∙ z) bs differ (x .dealt);
     new = x .new;
     apart = x .apart;
     differ = differ;
-    fresh = sym (x .others h differ) ∙ e;
-    others = λ a d away. put-other (k .hand) h _ a d ∙ x .others a away;
+    fresh = sym (x .others h differ .0) ∙ e;
+    others = λ a d away. let o = x .others a away in (put-other (k .hand) h _ a d ∙ o .0, out-other a h n (k .log) d ∙ o .1);
   }
     where
       differ : Each (λ b. h ≡ b .handle → ⊥) bs
       differ = each-map (λ b. k .hand (b .handle) ≡ some (holdOf b)) _ (λ b z t. Option·none-ne-some (holdOf b) (sym e ∙ ap (k .hand) t ∙ z)) bs (x .own)
 
   safe-allocating : (n : ℕ) (w : World) → w .host ≡ l → Owns base bs (w .host) → I (w .card) → Safe i w (allocating n) (Some n)
-  safe-allocating n w q x j = (tt, at)
+  safe-allocating n w q x j = (λ e d u. owns-none bs (w .host) (x .dealt) e d (bound (w .card) j d u), at)
     where
       at : (r : Bus ℕ) (v : World) → WorldStep w (allocate n) r v → Safe i v (onAllocate n r) (Some n)
       at failed v st = (subst (Owns base bs) (sym (st .1)) x, stable (w .card) (v .card) (st .0) j)
@@ -194,7 +203,7 @@ module _ (i : List ℕ) (base : ℕ → Option Hold) (bs : List Buffer) (I : Car
           let held : Extra h n [] [] (v .host) = subst (Extra h n [] []) (sym (st .1 .1)) (handed h n (w .host) x (st .1 .0)) in
           let j1 = stable (w .card) (v .card) (st .0) j in
           let boxes : Unboxed (v .host) = (ap (λ (k : Host). k .inbox) (st .1 .1) ∙ ap (λ (k : Host). k .inbox) q, ap (λ (k : Host). k .outbox) (st .1 .1) ∙ ap (λ (k : Host). k .outbox) q) in
-          ((record { pages = n; mapped = []; unmapped = [] }, held .this), λ r u st2. safe-spot h n v held boxes j1 r u st2)
+          ((record { pages = n; mapped = []; unmapped = [] }, held .this, held .given, refl), λ r u st2. safe-spot h n v held boxes j1 r u st2)
 
   -- for so many bytes, which 18 may refuse before any question
   abbrev pub MadePost : (bytes : ℕ) → World → Made → Type 1

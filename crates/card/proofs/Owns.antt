@@ -3,14 +3,14 @@ use Prim.Native.Nat.{ℕ}
 use mathlib.Core.Bool.{Bool, true, false}
 use mathlib.Core.List.{List, [], _∷_, _++_}
 use mathlib.Core.Logic.{_⊎_, inl, inr}
-use mathlib.Core.Option.{Option, some, none}
+use mathlib.Core.Option.{Option, some, none, Option·none-ne-some}
 use mathlib.Core.Path.{_≡_, refl, sym, _∙_, ap, subst}
 use lib.Dec.{eqb}
 use borrow.Author.Tests.{eq-eqb, ne-eqb, eqb-true, eqb-false}
 use Rattle.fields.specs.Outcome.{pick}
 use Rattle.dma.specs.declared.Buffer.{Buffer}
 use Rattle.buffer.specs.Buffer.{freeing}
-use Rattle.card.specs.Card.{put, Hold, Host, Meets, InUse, unmapAll, unmapIn, handBack, World}
+use Rattle.card.specs.Card.{put, Hold, Deal, out, back, standing, Host, Meets, InUse, Ours, unmapAll, unmapIn, handBack, World}
 use Rattle.card.specs.Safe.{Safe}
 use Rattle.card.specs.Owns.{Each, Pairwise, spotOf, holdOf, InBooks, Apart, Owns}
 use Rattle.card.proofs.Command.{quiet-stable}
@@ -72,6 +72,7 @@ apart-sym a b x = (λ e. x .0 (sym e), λ d m n. x .1 d n m)
 pub owns-perm : (base : ℕ → Option Hold) (bs cs : List Buffer) (k : Host) → Perm bs cs → Owns base bs k → Owns base cs k
 owns-perm base bs cs k p x = record {
   own = each-perm _ bs cs p (x .own);
+  dealt = each-perm _ bs cs p (x .dealt);
   new = each-perm _ bs cs p (x .new);
   apart = pairwise-perm Apart apart-sym bs cs p (x .apart);
   others = λ h away. x .others h (each-perm _ cs bs (perm-sym bs cs p) away);
@@ -99,6 +100,28 @@ pub owns-use : (bs : List Buffer) (k : Host) → Each (λ b. k .hand (b .handle)
 owns-use (b ∷ bs) k x d (inl m) = (b .handle, holdOf b, x .0, inl m)
 owns-use (b ∷ bs) k x d (inr m) = owns-use bs k (x .1) d m
 
+-- and are the session's own
+pub owns-ours : (bs : List Buffer) (k : Host) → Each (λ b. k .hand (b .handle) ≡ some (holdOf b)) bs → Each (λ b. standing (b .handle) (k .log) ≡ some (b .pages)) bs → (d : ℕ) → InBooks bs d → Ours k d
+owns-ours (b ∷ bs) k x y d (inl m) = (b .handle, holdOf b, x .0, y .0, inl m)
+owns-ours (b ∷ bs) k x y d (inr m) = owns-ours bs k (x .1) (y .1) d m
+
+-- where nothing was dealt there is none
+pub owns-none : (bs : List Buffer) (k : Host) → Each (λ b. standing (b .handle) (k .log) ≡ some (b .pages)) bs → k .log ≡ [] → (d : ℕ) → InBooks bs d → ⊥
+owns-none (b ∷ bs) k x e d m = Option·none-ne-some (b .pages) (ap (standing (b .handle)) (sym e) ∙ x .0)
+
+-- a deal under one handle leaves the others
+pub out-other : (h x n : ℕ) (l : List Deal) → (h ≡ x → ⊥) → standing h (out x n ∷ l) ≡ standing h l
+out-other h x n l e = ap (λ (b : Bool). pick b (some n) (standing h l)) (ne-eqb h x e)
+
+pub out-same : (h n : ℕ) (l : List Deal) → standing h (out h n ∷ l) ≡ some n
+out-same h n l = ap (λ (b : Bool). pick b (some n) (standing h l)) (eq-eqb h h refl)
+
+pub back-other : (h x n : ℕ) (l : List Deal) → (h ≡ x → ⊥) → standing h (back x n ∷ l) ≡ standing h l
+back-other h x n l e = ap (λ (b : Bool). pick b none (standing h l)) (ne-eqb h x e)
+
+pub back-same : (h x n : ℕ) (l : List Deal) → h ≡ x → standing h (back x n ∷ l) ≡ none
+back-same h x n l e = ap (λ (b : Bool). pick b none (standing h l)) (eq-eqb h x e)
+
 -- GIVING BACK
 freed-hand : (k : Host) (h n m : ℕ) → (m ≡ h → ⊥) → handBack (unmapIn k h) h n .hand m ≡ k .hand m
 freed-hand k h n m e = put-other (unmapIn k h .hand) h none m e ∙ put-other (k .hand) h (unmapAll (k .hand h)) m e
@@ -106,24 +129,27 @@ freed-hand k h n m e = put-other (unmapIn k h .hand) h none m e ∙ put-other (k
 owns-free : (base : ℕ → Option Hold) (b : Buffer) (bs : List Buffer) (k : Host) → Owns base (b ∷ bs) k → Owns base bs (handBack (unmapIn k (b .handle)) (b .handle) (b .pages))
 owns-free base b bs k x = record {
   own = each-both (Apart b) (λ c. k .hand (c .handle) ≡ some (holdOf c)) _ (λ c a e. freed-hand k (b .handle) (b .pages) (c .handle) (λ q. a .0 (sym q)) ∙ e) bs (x .apart .0) (x .own .1);
+  dealt = each-both (Apart b) (λ c. standing (c .handle) (k .log) ≡ some (c .pages)) _ (λ c a e. back-other (c .handle) (b .handle) (b .pages) (k .log) (λ q. a .0 (sym q)) ∙ e) bs (x .apart .0) (x .dealt .1);
   new = x .new .1;
   apart = x .apart .1;
   others = λ h away. rest h away (eqb h (b .handle)) refl;
 }
   where
-    rest : (h : ℕ) → Each (λ c. h ≡ c .handle → ⊥) bs → (t : Bool) → eqb h (b .handle) ≡ t → handBack (unmapIn k (b .handle)) (b .handle) (b .pages) .hand h ≡ base h
+    rest : (h : ℕ) → Each (λ c. h ≡ c .handle → ⊥) bs → (t : Bool) → eqb h (b .handle) ≡ t
+        → (handBack (unmapIn k (b .handle)) (b .handle) (b .pages) .hand h ≡ base h) × (standing h (back (b .handle) (b .pages) ∷ k .log) ≡ none)
     rest h away true e =
         let q = eqb-true h (b .handle) e in
-        put-same (unmapIn k (b .handle) .hand) (b .handle) none h q ∙ sym (ap base q ∙ x .new .0)
+        (put-same (unmapIn k (b .handle) .hand) (b .handle) none h q ∙ sym (ap base q ∙ x .new .0), back-same h (b .handle) (b .pages) (k .log) q)
     rest h away false e =
         let q = eqb-false h (b .handle) e in
-        freed-hand k (b .handle) (b .pages) h q ∙ x .others h (q, away)
+        let o = x .others h (q, away) in
+        (freed-hand k (b .handle) (b .pages) h q ∙ o .0, back-other h (b .handle) (b .pages) (k .log) q ∙ o .1)
 
 -- the card uses nothing: a buffer is given back
 pub safe-freeing : (i : List ℕ) (base : ℕ → Option Hold) (b : Buffer) (bs : List Buffer) (w : World) → Owns base (b ∷ bs) (w .host) → Quiet Empty (w .card)
     → Safe i w (freeing (b .handle) (b .pages)) (λ v r. Owns base bs (v .host) × Quiet Empty (v .card))
 safe-freeing i base b bs w x q = (
-  record { hold = holdOf b; handed = x .own .0; unused = λ d s u. empty-uses (w .card) q d u },
+  record { hold = holdOf b; handed = x .own .0; own = x .dealt .0; unused = λ d s u. empty-uses (w .card) q d u },
   λ r v st.
       let q1 = quiet-stable Empty (w .card) (v .card) (st .0) q in
       let e1 : v .host .hand (b .handle) ≡ unmapAll (some (holdOf b)) =
@@ -132,6 +158,7 @@ safe-freeing i base b bs w x q = (
           record {
             hold = record { pages = b .pages; mapped = []; unmapped = spotOf b ∷ [] };
             handed = e1;
+            own = ap (λ (k : Host). standing (b .handle) (k .log)) (st .1) ∙ x .dealt .0;
             unused = λ d s u. empty-uses (v .card) q1 d u;
           },
           refl,

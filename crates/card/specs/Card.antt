@@ -1,5 +1,6 @@
--- The card rules of document 01, sentence by sentence: what the card and the host may do at each question, and what a session must keep to. Registers have their own
--- numbers here, as scripts have them; a page is a number, an address divided by 4,096.
+-- The card rules of document 01, sentence by sentence: what the card and the host may do at each
+-- question, and what a session must keep to. Registers have their own numbers here, as scripts have
+-- them; a page is a number, an address divided by 4,096.
 use Prim.Native.Nat.{ℕ, zero, suc, _+_, _*_, _/_, _%_, _^_, _<_, _≤_}
 use mathlib.Core.Bool.{Bool, true}
 use mathlib.Core.List.{List, [], _∷_, _++_}
@@ -23,7 +24,8 @@ pub record Held : Type 1 where
   pub auxiliary : ℕ → Type 0
   pub lent : ℕ → Type 0
 
--- "for a session's command its inbox and outbox": where they are mapped, and the bytes that the last fence copied to the inbox
+-- "for a session's command its inbox and outbox": where they are mapped, and the bytes that the
+-- last fence copied to the inbox
 pub record Mail : Type 0 where
   pub inbox : Option Spot
   pub outbox : Option Spot
@@ -100,8 +102,8 @@ holds i f a l = record { icm = i; firmware = f; auxiliary = a; lent = l }
 abbrev pub No : ℕ → Type 0
 No d = ⊥
 
--- "MAP adds its blocks; UNMAP_ICM drops its range; UNMAP_FA and UNMAP_ICM_AUX drop theirs", "lent pages until CLOSE_HCA succeeds", "Nothing else changes what the
--- card holds."
+-- "MAP adds its blocks; UNMAP_ICM drops its range; UNMAP_FA and UNMAP_ICM_AUX drop theirs", "lent
+-- pages until CLOSE_HCA succeeds", "Nothing else changes what the card holds."
 abbrev pub does : Kind → Command → Held → Held
 does MapFa p h = holds (h .icm) (λ d. h .firmware d ⊎ Named p d) (h .auxiliary) (h .lent)
 does UnmapFa p h = holds (h .icm) No (h .auxiliary) (h .lent)
@@ -151,7 +153,8 @@ written c v =
       mail = c .mail;
     }
 
--- "The card takes a written command once, whole": the write at 0x18 is the command. (A second one while the first is pending is forbidden to a session, see Allowed.)
+-- "The card takes a written command once, whole": the write at 0x18 is the command. (A second one
+-- while the first is pending is forbidden to a session, see Allowed.)
 abbrev pub begin : Card → Command → Card
 begin c p = record { held = c .held; pending = some p; last = some (p .tbit); status = c .status; registers = c .registers; mail = c .mail }
 
@@ -177,7 +180,8 @@ lendTo P c =
       mail = c .mail;
     }
 
--- A write that is taken: 1 at 0xf0010 resets, GO at 0x80680 + 0x18 starts a command, others are stored. The registers are those of BAR 0.
+-- A write that is taken: 1 at 0xf0010 resets, GO at 0x80680 + 0x18 starts a command, others are
+-- stored. The registers are those of BAR 0.
 abbrev pub take : Card → (bar offset value : ℕ) → Card
 take c b o v =
     pick (eqb b 0)
@@ -190,7 +194,8 @@ take c b o v =
 abbrev pub fenced : Card → Mail → Card
 fenced c m = record { held = c .held; pending = c .pending; last = c .last; status = c .status; registers = c .registers; mail = m }
 
--- "shows GO set until it is done, then that command's T", and its status. Else the dword is free: before the first command after a reset, and GO once it is done.
+-- "shows GO set until it is done, then that command's T", and its status. Else the dword is free:
+-- before the first command after a reset, and GO once it is done.
 pub record Shows (c : Card) (v : ℕ) : Type 1 where
   pub while-pending : (p : Command) → c .pending ≡ some p → goOf v ≡ true
   pub when-done : (t : Bool) → c .pending ≡ none → c .last ≡ some t → (tbitOf v ≡ t) × (statusOf v ≡ c .status)
@@ -203,14 +208,16 @@ CardReads c b o failed d = Settles c d
 abbrev pub Takes : Card → (bar offset value : ℕ) → Card → Type 1
 Takes c b o v d = (m : Card) × Settles c m × Settles (take m b o v) d
 
--- "A bus call reported good was taken; one reported failed may have been, then and not later", "whole or not at all"
+-- "A bus call reported good was taken; one reported failed may have been, then and not later",
+-- "whole or not at all"
 abbrev pub CardWrites : Card → (bar offset value : ℕ) → Bus (Unit {0}) → Card → Type 1
 CardWrites c b o v (good x) d = Takes c b o v d
 CardWrites c b o v failed d = Settles c d ⊎ Takes c b o v d
 
 -- THE HOST
 
--- What stands behind a handle: so many pages, the addresses at which they are mapped, and those at which they were.
+-- What stands behind a handle: so many pages, the addresses at which they are mapped, and those at
+-- which they were.
 pub record Hold : Type 0 where
   pub pages : ℕ
   pub mapped : List Spot
@@ -221,7 +228,14 @@ pub data Deal : Type 0 where
   out : (handle pages : ℕ) → Deal
   back : (handle pages : ℕ) → Deal
 
--- What is handed out, by handle; the deals with this session; and where its inbox and its outbox are: a session's first two buffers that were mapped are its mailboxes.
+-- what stands under a handle: the pages of its last handing over, until they are given back
+abbrev pub standing : ℕ → List Deal → Option ℕ
+standing h [] = none
+standing h (out x n ∷ l) = pick (eqb h x) (some n) (standing h l)
+standing h (back x n ∷ l) = pick (eqb h x) none (standing h l)
+
+-- What is handed out, by handle; the deals with this session; and where its inbox and its outbox
+-- are: a session's first two buffers that were mapped are its mailboxes.
 pub record Host : Type 0 where
   pub hand : ℕ → Option Hold
   pub log : List Deal
@@ -239,6 +253,10 @@ On (s ∷ ss) d = Meets s d ⊎ On ss d
 -- the device page's address is in use
 abbrev pub InUse : Host → ℕ → Type 0
 InUse k d = (h : ℕ) × (x : Hold) × (k .hand h ≡ some x) × On (x .mapped) d
+
+-- it is an address of pages that stand handed over to this session
+abbrev pub Ours : Host → ℕ → Type 0
+Ours k d = (h : ℕ) × (x : Hold) × (k .hand h ≡ some x) × (standing h (k .log) ≡ some (x .pages)) × On (x .mapped) d
 
 abbrev pub orElse : Option Spot → Spot → Option Spot
 orElse none s = some s
@@ -281,7 +299,8 @@ abbrev pub HostMaps : Host → ℕ → Bus Spot → Host → Type 0
 HostMaps k h (good s) l = ((d : ℕ) → Meets s d → InUse k d → ⊥) × (l ≡ mapIn k h s)
 HostMaps k h failed l = l ≡ k
 
--- "A page is given back by the question that frees it, even if that fails; it and its handle are in use till then, an address till its unmap question."
+-- "A page is given back by the question that frees it, even if that fails; it and its handle are in
+-- use till then, an address till its unmap question."
 abbrev pub HostStep : Host → (q : Ask) → Reply q → Host → Type 0
 HostStep k (configRead16 o) r l = l ≡ k
 HostStep k (configRead32 o) r l = l ≡ k
@@ -308,7 +327,8 @@ pub record World : Type 1 where
 abbrev pub mailAt : Host → List ℕ → Mail
 mailAt k i = record { inbox = k .inbox; outbox = k .outbox; bytes = i }
 
--- "Nothing else changes what the card holds": config, attribute, resource and stall questions do not
+-- "Nothing else changes what the card holds": config, attribute, resource and stall questions do
+-- not
 abbrev pub CardStep : Host → Card → (q : Ask) → Reply q → Card → Type 1
 CardStep k c (configRead16 o) r d = Settles c d
 CardStep k c (configRead32 o) r d = Settles c d
@@ -330,8 +350,8 @@ WorldStep w q r v = CardStep (w .host) (w .card) q r (v .card) × HostStep (w .h
 
 -- WHAT THE CARD MAY USE
 
-abbrev pub Holds : Held → ℕ → Type 0
-Holds h d = ((v : ℕ) × h .icm v d) ⊎ h .firmware d ⊎ h .auxiliary d ⊎ h .lent d
+abbrev pub IsHeld : Held → ℕ → Type 0
+IsHeld h d = ((v : ℕ) × h .icm v d) ⊎ h .firmware d ⊎ h .auxiliary d ⊎ h .lent d
 
 abbrev pub IsMap : Kind → Type 0
 IsMap MapFa = Unit {0}
@@ -348,20 +368,24 @@ abbrev pub OnBox : Option Spot → ℕ → Type 0
 OnBox none d = ⊥
 OnBox (some s) d = Meets s d
 
--- "its inbox and outbox", in every form of command, and the blocks of a MAP; "no immediate names a page"
+-- "its inbox and outbox", in every form of command, and the blocks of a MAP; "no immediate names a
+-- page"
 abbrev pub Carries : Command → ℕ → Type 0
 Carries p d = OnBox (p .mail .inbox) d ⊎ OnBox (p .mail .outbox) d ⊎ (IsMap (kind (p .opcode)) × Named p d)
 
--- "The card may use what it holds, a pending command's mailboxes and blocks, and lent pages until CLOSE_HCA succeeds."
+-- "The card may use what it holds, a pending command's mailboxes and blocks, and lent pages until
+-- CLOSE_HCA succeeds."
 abbrev pub MayUse : Card → ℕ → Type 0
-MayUse c d = Holds (c .held) d ⊎ ((p : Command) × (c .pending ≡ some p) × Carries p d)
+MayUse c d = IsHeld (c .held) d ⊎ ((p : Command) × (c .pending ≡ some p) × Carries p d)
 
 -- WHAT A SESSION MUST KEEP TO
 
--- the card may use no page of what is behind the handle, at any address that it was given
+-- the handle was handed over to this session, and the card may use no page of what is behind it, at
+-- any address that it was given
 pub record Clear (w : World) (h : ℕ) : Type 0 where
   pub hold : Hold
   pub handed : w .host .hand h ≡ some hold
+  pub own : standing h (w .host .log) ≡ some (hold .pages)
   pub unused : (d : ℕ) → On (hold .mapped ++ hold .unmapped) d → MayUse (w .card) d → ⊥
 
 -- the inbox stands at this address
@@ -369,24 +393,29 @@ abbrev pub StandsAt : Option Spot → ℕ → Type 0
 StandsAt none x = ⊥
 StandsAt (some s) x = s .address ≡ x
 
--- a command is written only while none is pending, and a MAP's input parameter is its inbox's address
-abbrev pub Posts : Card → ℕ → Type 0
-Posts c v = (c .pending ≡ none) × (IsMap (kind (written c v .opcode)) → StandsAt (written c v .mail .inbox) (written c v .inParam))
+-- a command is written only while none is pending; a MAP's input parameter is its inbox's address;
+-- and all that it tells the card of is the session's own
+pub record Posts (w : World) (v : ℕ) : Type 0 where
+  pub idle : w .card .pending ≡ none
+  pub addressed : IsMap (kind (written (w .card) v .opcode)) → StandsAt (written (w .card) v .mail .inbox) (written (w .card) v .inParam)
+  pub carried : (d : ℕ) → Carries (written (w .card) v) d → Ours (w .host) d
 
--- What a session may ask, while its inbox holds these bytes: it writes dwords; it unmaps an address and gives a page back only if they are handed out and the card may
--- not use them; a fence copies the inbox as it is.
+-- What a session may ask, while its inbox holds these bytes: it writes dwords; it takes its first
+-- page only when the card may use none; it maps what is its own and is not mapped; it unmaps an
+-- address and gives pages back only if they are its own and the card may not use them, and all of
+-- them at once; a fence copies the inbox as it is.
 abbrev pub Allowed : (inbox : List ℕ) → World → Ask → Type 0
 Allowed i w (configRead16 o) = Unit {0}
 Allowed i w (configRead32 o) = Unit {0}
 Allowed i w (configWrite16 o v) = Unit {0}
 Allowed i w (configWrite32 o v) = Unit {0}
 Allowed i w (read b o) = Unit {0}
-Allowed i w (write b o v) = (v < 2 ^ 32) × (b ≡ 0 → o ≡ 0x80698 → Posts (w .card) v)
+Allowed i w (write b o v) = (v < 2 ^ 32) × (b ≡ 0 → o ≡ 0x80698 → Posts w v)
 Allowed i w (attributes o v) = Unit {0}
 Allowed i w (resource b) = Unit {0}
 Allowed i w (stall t) = Unit {0}
-Allowed i w (allocate n) = Unit {0}
-Allowed i w (mapped h n) = (x : Hold) × (w .host .hand h ≡ some x)
+Allowed i w (allocate n) = w .host .log ≡ [] → (d : ℕ) → MayUse (w .card) d → ⊥
+Allowed i w (mapped h n) = (x : Hold) × (w .host .hand h ≡ some x) × (standing h (w .host .log) ≡ some (x .pages)) × (x .mapped ≡ [])
 Allowed i w (unmap h) = Clear w h
 Allowed i w (free h n) = (x : Clear w h) × (x .hold .pages ≡ n)
 Allowed i w (fence j) = j ≡ i

@@ -1,6 +1,7 @@
 -- What is known of a card before and after a command and a reset, whatever it does. H is any set of holdings, Q any set of commands.
 use Prim.Native.Nat.{ℕ, _^_, _<_}
 use mathlib.Core.Bool.{Bool, true}
+use mathlib.Core.List.{List}
 use mathlib.Core.Logic.{_⊎_}
 use mathlib.Core.Option.{some, none}
 use mathlib.Core.Path.{_≡_}
@@ -9,7 +10,7 @@ use Rattle.command.specs.declared.CmdResult.{CmdResult}
 use Rattle.command.specs.declared.CmdResult.the-variants as r
 use Rattle.reset.specs.Reset.{isGood}
 use Rattle.reset.specs.declared.ResetEnd.{ResetEnd}
-use Rattle.card.specs.Card.{Held, Mail, Command, Card, holds, No, effect, result, Settles, Host, World, Holds, IsMap, kind, StandsAt}
+use Rattle.card.specs.Card.{Held, Mail, Command, Card, holds, No, effect, result, Settles, Host, Ours, World, mailAt, IsHeld, IsMap, OnBox, Carries, kind, StandsAt}
 
 -- Nothing is pending, and what is held is among H.
 abbrev pub Quiet : (Held → Type 1) → Card → Type 1
@@ -50,6 +51,15 @@ Stable I = (c d : Card) → Settles c d → I c → I d
 abbrev pub postedAs : Bool → Post → Mail → Command
 postedAs t p m = record { opcode = p .op; inMod = p .«in_mod»; inParam = p .«in_param»; tbit = t; mail = m }
 
+-- all that it carries is the session's own
+abbrev pub Carried : Post → Host → List ℕ → Type 0
+Carried p k i = (d : ℕ) → Carries (postedAs true p (mailAt k i)) d → Ours k d
+
+-- the mailboxes are the session's own
+pub record Mailed (k : Host) : Type 0 where
+  pub inbox : (d : ℕ) → OnBox (k .inbox) d → Ours k d
+  pub outbox : (d : ℕ) → OnBox (k .outbox) d → Ours k d
+
 -- its fields have their widths, and a MAP names the inbox
 pub record Fits (p : Post) (m : Mail) : Type 0 where
   pub op : p .op < 0x1000
@@ -82,4 +92,4 @@ ResetPost l w x = (w .host ≡ l) × (isGood x ≡ true → Clean (w .card))
 
 -- the card holds nothing
 pub record Empty (h : Held) : Type 1 where
-  pub nothing : (d : ℕ) → Holds h d → ⊥
+  pub nothing : (d : ℕ) → IsHeld h d → ⊥

@@ -1,14 +1,12 @@
--- What a session has of the host, and how often a handle was handed over and given back.
-use Prim.Native.Nat.{ℕ, _+_, _*_}
+-- What a session has of the host, and the order of the deals.
+use Prim.Native.Nat.{ℕ, _*_}
 use mathlib.Core.List.{List, [], _∷_}
 use mathlib.Core.Logic.{_⊎_}
 use mathlib.Core.Option.{Option, some, none}
 use mathlib.Core.Path.{_≡_}
-use lib.Dec.{eqb}
-use Rattle.fields.specs.Outcome.{pick}
 use Rattle.dma.specs.declared.Buffer.{Buffer}
 use Rattle.pci.specs.Script.{Spot}
-use Rattle.card.specs.Card.{Hold, Deal, out, back, Host, Meets}
+use Rattle.card.specs.Card.{Hold, Deal, out, back, standing, Host, Meets}
 
 abbrev pub Each : {A : Type 0} → (A → Type 0) → List A → Type 0
 Each P [] = Unit {0}
@@ -34,20 +32,18 @@ InBooks (b ∷ bs) d = Meets (spotOf b) d ⊎ InBooks bs d
 abbrev pub Apart : Buffer → Buffer → Type 0
 Apart a b = (a .handle ≡ b .handle → ⊥) × ((d : ℕ) → Meets (spotOf a) d → Meets (spotOf b) d → ⊥)
 
--- The session has exactly these buffers of the host; `base` is what was handed out before it began.
+-- The session has exactly these buffers of the host, by what is handed out and by the deals; `base`
+-- is what was handed out before it began.
 pub record Owns (base : ℕ → Option Hold) (bs : List Buffer) (k : Host) : Type 0 where
   pub own : Each (λ b. k .hand (b .handle) ≡ some (holdOf b)) bs
+  pub dealt : Each (λ b. standing (b .handle) (k .log) ≡ some (b .pages)) bs
   pub new : Each (λ b. base (b .handle) ≡ none) bs
   pub apart : Pairwise Apart bs
-  pub others : (h : ℕ) → Each (λ b. h ≡ b .handle → ⊥) bs → k .hand h ≡ base h
+  pub others : (h : ℕ) → Each (λ b. h ≡ b .handle → ⊥) bs → (k .hand h ≡ base h) × (standing h (k .log) ≡ none)
 
--- how often a handle was handed over, and given back
-abbrev pub outs : ℕ → List Deal → ℕ
-outs h [] = 0
-outs h (out x n ∷ l) = pick (eqb h x) 1 0 + outs h l
-outs h (back x n ∷ l) = outs h l
-
-abbrev pub backs : ℕ → List Deal → ℕ
-backs h [] = 0
-backs h (out x n ∷ l) = backs h l
-backs h (back x n ∷ l) = pick (eqb h x) 1 0 + backs h l
+-- The deals are in order: nothing is handed over under a handle that stands, and what is given back
+-- is what stands, all of its pages: once for each handing over.
+abbrev pub InOrder : List Deal → Type 0
+InOrder [] = Unit {0}
+InOrder (out h n ∷ l) = (standing h l ≡ none) × InOrder l
+InOrder (back h n ∷ l) = (standing h l ≡ some n) × InOrder l

@@ -5,7 +5,7 @@ use native.Mathlib.Nat.{mod-eq-of-lt, max-le}
 use mathlib.Core.Bool.{Bool, true, false}
 use mathlib.Core.List.{List, [], _∷_}
 use mathlib.Core.Logic.{_⊎_, inl, inr, ⊎-elim}
-use mathlib.Core.Option.{Option}
+use mathlib.Core.Option.{Option, some}
 use mathlib.Core.Path.{_≡_, refl, sym, _∙_, ap, subst}
 use lib.Dec.{eqb, leb, lit≤}
 use borrow.Author.Tests.{eq-eqb, eqb-true, eqb-false, leb-true}
@@ -41,19 +41,20 @@ use Rattle.closing_plan.specs.Closing.{lendsFrom}
 use Rattle.opening_plan.specs.Values.{opFor, enters, cutterFor, rangeAt, withFa, withAux}
 use Rattle.opening_plan.specs.Opening.{fails, onGood, holds, onMade, mapping, areaFor}
 use Rattle.opening_plan.proofs.Cutting.{behind-less}
-use Rattle.card.specs.Card.{Held, Card, Hold, Host, Meets, orElse, second, MayUse, World, mailAt}
+use Rattle.card.specs.Card.{Held, Command, Card, Hold, Host, Meets, MayUse, World, mailAt}
 use Rattle.card.specs.Owns.{Owns, InBooks, spotOf}
 use Rattle.card.proofs.Command.{quiet-stable, quiet-within}
 use Rattle.card.proofs.View.{quiet-uses}
-use Rattle.card.proofs.Owns.{owns-perm}
+use Rattle.card.proofs.Fixed.{safe-fixed}
+use Rattle.card.proofs.Owns.{owns-perm, owns-ours}
 use Rattle.card.proofs.Making.{Sound, MadePost, safe-making}
 use Rattle.card_calls.specs.SafeCourse.{SafeCourse}
 use Rattle.card_calls.specs.Ranges.{OnRange}
 use Rattle.card_calls.proofs.Courses.{Fair, safe-task, safe-sends, course-pick}
 use Rattle.card_calls.proofs.Blocks.{Cutting, OnRun, cutting, behind-cutting, range-blocks, length-mailbox}
-use Rattle.card_calls.proofs.Books.{knows-owed, partly-owed, partly-done, partly-step, knows-bound, fa-perm, aux-perm, entryOf, ranged, range-enters, ranged-entries, in-old, in-new, in-either, range-perm}
-use Rattle.card_calls.proofs.Commands.{fits-in, safe-fails, safe-failed}
-use Rattle.card.specs.Known.{Empty, Fits, Out, Quiet, postedAs}
+use Rattle.card_calls.proofs.Books.{knows-owed, named-in, partly-owed, partly-done, partly-step, knows-bound, fa-perm, aux-perm, entryOf, ranged, range-enters, ranged-entries, in-old, in-new, in-either, range-perm}
+use Rattle.card_calls.proofs.Commands.{boxes-mailed, fits-in, safe-fails, safe-failed}
+use Rattle.card.specs.Known.{Carried, Empty, Fits, Mailed, Out, Quiet, postedAs}
 use Rattle.card_calls.specs.Ranges.{AnyIn}
 use Rattle.card_calls.specs.Owed.{OwedBy}
 use Rattle.card_calls.specs.Holding.{Boxes, Calm, Entries, Knows, OnSlot, Partly, Ready}
@@ -127,10 +128,13 @@ module _ (base : ℕ → Option Hold) (P : World → Rest → Type 1)
         (λ z. done y h w p q d s (u .0, partly-done e b k (w .card .held) t (eqb-true (k .left) 0 z) (u .1)))
         (λ z. safe-sends (wired b y) (withInOf (b .held) (opFor e) (length (firstBlocks 63 256 k) % 2 ^ 32))
         (λ a c j. onGood a (λ f i. mapping e next m (behind 63 256 k) n f i) n c j) (Partly e b k) (Calm b) P (holds (filledAt 63 256 k (h .inbox)) h) w
-        (filled-fair k h q) (fits (filledAt 63 256 k (h .inbox))) (quiet-within (Partly e b k) (Calm b) (w .card) u)
+        (filled-fair k h q) (fits (filledAt 63 256 k (h .inbox))) carried (quiet-within (Partly e b k) (Calm b) (w .card) u)
         (λ v c j o f u₁. by-result (eqb-false (k .left) 0 z) (λ y j v a q d s u. safe-mapping m (behind 63 256 k) y j v a (less (eqb-false (k .left) 0 z)) (behind-cutting k t) q d s u)
         (c .result) (after y c) v j p o f u₁))
       where
+        mailed : Mailed (w .host)
+        mailed = subst Mailed (sym d) (boxes-mailed base b l x (subst (Owns base (lendsFrom b 0)) d s))
+
         less : (k .left ≡ 0 → ⊥) → behind 63 256 k .left ≤ m
         less z = let f = behind-less 255 k z in omega (arith, f, g, z)
 
@@ -138,6 +142,13 @@ module _ (base : ℕ → Option Hold) (P : World → Rest → Type 1)
         fits z =
             subst (λ (f : Host). Fits (withInOf (b .held) (opFor e) (length (firstBlocks 63 256 k) % 2 ^ 32)) (mailAt f z)) (sym d)
             (fits-in b l x (opFor e) (length (firstBlocks 63 256 k) % 2 ^ 32) z (op-small e) (let f : length (firstBlocks 63 256 k) % 2 ^ 32 < 2 ^ 32 = omega arith in f))
+
+        posted : Command
+        posted = postedAs true (withInOf (b .held) (opFor e) (length (firstBlocks 63 256 k) % 2 ^ 32)) (mailAt (w .host) (filledAt 63 256 k (h .inbox)))
+
+        -- the blocks lie in the books, as what is held after the command does
+        carried : Carried (withInOf (b .held) (opFor e) (length (firstBlocks 63 256 k) % 2 ^ 32)) (w .host) (filledAt 63 256 k (h .inbox))
+        carried f z = ⊎-elim (λ y. mailed .inbox f y) (λ r. ⊎-elim (λ y. mailed .outbox f y) (λ y. owns-ours (lendsFrom b 0) (w .host) (s .own) (s .dealt) f (named-in b k t posted refl (filled-is k (h .inbox) (q .inbox)) e (u .1 .ahead) f (y .1))) r) z
 
         owed : (f : Held) → Partly e b k f → OwedBy b f
         owed f = partly-owed e b k f i
@@ -155,16 +166,16 @@ module _ (base : ℕ → Option Hold) (P : World → Rest → Type 1)
             )
         by-result z again (r.Status n₁ us) y₁ v j l₁ o f u =
             safe-failed base P back kept (r.Status n₁ us) (failureOf (r.Status n₁ us)) n b y₁ j v
-            (postedAs (y .toggle) (withInOf (b .held) (opFor e) (length (firstBlocks 63 256 k) % 2 ^ 32)) (mailAt (w .host) (filledAt 63 256 k (h .inbox)))) (Partly e b k) (Calm b) refl o (subst (Owns base (lendsFrom b 0)) (sym f) s) i l₁ owed u
+            (postedAs (y .toggle) (withInOf (b .held) (opFor e) (length (firstBlocks 63 256 k) % 2 ^ 32)) (mailAt (w .host) (filledAt 63 256 k (h .inbox)))) (Partly e b k) (Calm b) refl o (subst Mailed (sym f) mailed) (subst (Owns base (lendsFrom b 0)) (sym f) s) i l₁ owed u
         by-result z again (r.Timeout us) y₁ v j l₁ o f u =
             safe-failed base P back kept (r.Timeout us) (failureOf (r.Timeout us)) n b y₁ j v
-            (postedAs (y .toggle) (withInOf (b .held) (opFor e) (length (firstBlocks 63 256 k) % 2 ^ 32)) (mailAt (w .host) (filledAt 63 256 k (h .inbox)))) (Partly e b k) (Calm b) refl o (subst (Owns base (lendsFrom b 0)) (sym f) s) i l₁ owed u
+            (postedAs (y .toggle) (withInOf (b .held) (opFor e) (length (firstBlocks 63 256 k) % 2 ^ 32)) (mailAt (w .host) (filledAt 63 256 k (h .inbox)))) (Partly e b k) (Calm b) refl o (subst Mailed (sym f) mailed) (subst (Owns base (lendsFrom b 0)) (sym f) s) i l₁ owed u
         by-result z again r.Busy y₁ v j l₁ o f u =
             safe-failed base P back kept r.Busy (failureOf r.Busy) n b y₁ j v
-            (postedAs (y .toggle) (withInOf (b .held) (opFor e) (length (firstBlocks 63 256 k) % 2 ^ 32)) (mailAt (w .host) (filledAt 63 256 k (h .inbox)))) (Partly e b k) (Calm b) refl o (subst (Owns base (lendsFrom b 0)) (sym f) s) i l₁ owed u
+            (postedAs (y .toggle) (withInOf (b .held) (opFor e) (length (firstBlocks 63 256 k) % 2 ^ 32)) (mailAt (w .host) (filledAt 63 256 k (h .inbox)))) (Partly e b k) (Calm b) refl o (subst Mailed (sym f) mailed) (subst (Owns base (lendsFrom b 0)) (sym f) s) i l₁ owed u
         by-result z again (r.Bus us) y₁ v j l₁ o f u =
             safe-failed base P back kept (r.Bus us) (failureOf (r.Bus us)) n b y₁ j v
-            (postedAs (y .toggle) (withInOf (b .held) (opFor e) (length (firstBlocks 63 256 k) % 2 ^ 32)) (mailAt (w .host) (filledAt 63 256 k (h .inbox)))) (Partly e b k) (Calm b) refl o (subst (Owns base (lendsFrom b 0)) (sym f) s) i l₁ owed u
+            (postedAs (y .toggle) (withInOf (b .held) (opFor e) (length (firstBlocks 63 256 k) % 2 ^ 32)) (mailAt (w .host) (filledAt 63 256 k (h .inbox)))) (Partly e b k) (Calm b) refl o (subst Mailed (sym f) mailed) (subst (Owns base (lendsFrom b 0)) (sym f) s) i l₁ owed u
 
   -- A BUFFER IN THE BOOKS d, before anything of it is mapped
   pub record Entered (e : Area) (n : Info) (z : Buffer) (b d : Books) (w : World) : Type 1 where
@@ -191,30 +202,38 @@ module _ (base : ℕ → Option Hold) (P : World → Rest → Type 1)
   unfolding areaFor
   safe-area e bytes D next n b h w q x enter follows =
       safe-task (λ y j. onMade y (λ z. mapping e next (cutterFor n e z .left) (cutterFor n e z) n (enters n e z b) j) (λ f. fails (faultOf f) n b j))
-      (MadePost (h .inbox) base (lendsFrom b 0) (Quiet (Knows b)) (quiet-stable (Knows b)) bound (w .host) bytes) P (making bytes) h w q
-      (safe-making (h .inbox) base (lendsFrom b 0) (Quiet (Knows b)) (quiet-stable (Knows b)) bound (w .host) bytes w refl (x .owns) (x .card)) at
+      After P (making bytes) h w q
+      (safe-fixed (h .inbox) (making bytes) w Had (spotOf (x .boxes .inbox)) (spotOf (x .boxes .outbox)) (x .boxes .inAt) (x .boxes .outAt)
+      (safe-making (h .inbox) base (lendsFrom b 0) (Quiet (Knows b)) (quiet-stable (Knows b)) bound (w .host) bytes w refl (x .owns) (x .card))) at
     where
       bound : (k : Card) → Quiet (Knows b) k → (d : ℕ) → MayUse k d → InBooks (lendsFrom b 0) d
       bound k s d u = let t = quiet-uses (Knows b) k s d u in knows-bound b (t .0) (t .1) d (t .2)
 
-      at : (v : World) (y : Made) (j : Here) → Fair j → j .inbox ≡ h .inbox → MadePost (h .inbox) base (lendsFrom b 0) (Quiet (Knows b)) (quiet-stable (Knows b)) bound (w .host) bytes v y
-          → SafeCourse v (onMade y (λ z. mapping e next (cutterFor n e z .left) (cutterFor n e z) n (enters n e z b) j) (λ f. fails (faultOf f) n b j)) P
-      at v (m.Refused f) j k d s =
-          safe-fails base P back kept (faultOf f) n b j v k (s .0) (x .entries) (x .loud) (λ t. (s .1 .0, knows-owed b (v .card .held) (x .entries) (s .1 .1)))
-      at v (m.Ready z) j k d s = begin (enter z v (record { owns = s .0; card = s .1; pages = s .2; sound = s .3; boxes = boxes }))
-        where
-          boxes : Boxes b (v .host)
-          boxes = record {
-            inbox = x .boxes .inbox;
-            outbox = x .boxes .outbox;
-            inHeld = x .boxes .inHeld;
-            outHeld = x .boxes .outHeld;
-            inAt = s .4 .0 ∙ ap (λ (t : Option Spot). orElse t (spotOf z)) (x .boxes .inAt);
-            outAt = s .4 .1 ∙ ap (λ (t : Option Spot). second t (w .host .outbox) (spotOf z)) (x .boxes .inAt) ∙ ap (λ (t : Option Spot). orElse t (spotOf z)) (x .boxes .outAt);
-            inLess = x .boxes .inLess;
-            outLess = x .boxes .outLess;
-          }
+      Had : World → Made → Type 1
+      Had = MadePost (h .inbox) base (lendsFrom b 0) (Quiet (Knows b)) (quiet-stable (Knows b)) bound (w .host) bytes
 
+      After : World → Made → Type 1
+      After v y = Had v y × ((v .host .inbox ≡ some (spotOf (x .boxes .inbox))) × (v .host .outbox ≡ some (spotOf (x .boxes .outbox))))
+
+      -- the mailboxes are where they were
+      boxed : (k : Host) → (k .inbox ≡ some (spotOf (x .boxes .inbox))) × (k .outbox ≡ some (spotOf (x .boxes .outbox))) → Boxes b k
+      boxed k s = record {
+        inbox = x .boxes .inbox;
+        outbox = x .boxes .outbox;
+        inHeld = x .boxes .inHeld;
+        outHeld = x .boxes .outHeld;
+        inAt = s .0;
+        outAt = s .1;
+        inLess = x .boxes .inLess;
+        outLess = x .boxes .outLess;
+      }
+
+      at : (v : World) (y : Made) (j : Here) → Fair j → j .inbox ≡ h .inbox → After v y
+          → SafeCourse v (onMade y (λ z. mapping e next (cutterFor n e z .left) (cutterFor n e z) n (enters n e z b) j) (λ f. fails (faultOf f) n b j)) P
+      at v (m.Refused f) j k d (s, fixed) =
+          safe-fails base P back kept (faultOf f) n b j v k (boxes-mailed base b (v .host) (boxed (v .host) fixed) (s .0)) (s .0) (x .entries) (x .loud) (λ t. (s .1 .0, knows-owed b (v .card .held) (x .entries) (s .1 .1)))
+      at v (m.Ready z) j k d (s, fixed) = begin (enter z v (record { owns = s .0; card = s .1; pages = s .2; sound = s .3; boxes = boxed (v .host) fixed }))
+        where
           begin : Entered e n z b (D z) v → SafeCourse v (mapping e next (cutterFor n e z .left) (cutterFor n e z) n (enters n e z b) j) P
           begin t =
               subst (λ (f : Books). SafeCourse v (mapping e next (cutterFor n e z .left) (cutterFor n e z) n f j) P) (sym (t .same))

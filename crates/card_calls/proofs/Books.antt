@@ -25,7 +25,7 @@ use Rattle.session.specs.declared.Area.{Area}
 use Rattle.session.specs.declared.Area.the-variants as a
 use Rattle.closing_plan.specs.Closing.{inHold, isHeld, boxes, areas, rangesFrom, lendsFrom}
 use Rattle.opening_plan.specs.Values.{opFor, withFa, withAux, enters, rangeAt}
-use Rattle.card.specs.Card.{Held, Command, Blocks, kind, does, effect, Holds, Meets}
+use Rattle.card.specs.Card.{Held, Command, Blocks, Named, holds, No, kind, does, effect, IsHeld, Meets}
 use Rattle.card.specs.Owns.{InBooks, spotOf}
 use Rattle.card.proofs.Owns.{Perm, stop, keep, swap, join, perm-self, In, in-left, in-right, in-books}
 use Rattle.card_calls.specs.Ranges.{OnRange, InRanges}
@@ -154,7 +154,7 @@ in-areas b c i =
     in-right c (table (λ k. bufferAt (b .lists .lent) k) 0 (b .lists .lends - 0)) (rangesFrom b 0)
     (in-right c (table (λ k. bufferOf (icmAt (b .lists .icm) k)) 0 (b .lists .ranges - 0)) (areas b) i)
 
-pub uses-bound : (b : Books) (g : Held) → Uses b g → (d : ℕ) → Holds g d → InBooks (lendsFrom b 0) d
+pub uses-bound : (b : Books) (g : Held) → Uses b g → (d : ℕ) → IsHeld g d → InBooks (lendsFrom b 0) d
 uses-bound b g x d z =
     ⊎-elim (λ i. ranged (x .icm (i .0) d .0 (i .1)))
     (λ u. ⊎-elim (λ f. held-fa (slot-in (b .held .fa) d (x .firmware d f)))
@@ -175,8 +175,19 @@ uses-bound b g x d z =
     held-fa (c, i, m) =
         in-books c (lendsFrom b 0) d (in-areas b c (in-right c (inHold (b .held .aux)) (inHold (b .held .fa) ++ boxes b) (in-left c (inHold (b .held .fa)) (boxes b) i))) m
 
-pub knows-bound : (b : Books) (g : Held) → Knows b g → (d : ℕ) → Holds g d → InBooks (lendsFrom b 0) d
+pub knows-bound : (b : Books) (g : Held) → Knows b g → (d : ℕ) → IsHeld g d → InBooks (lendsFrom b 0) d
 knows-bound b g x d z = uses-bound b g (knows-uses b g x) d z
+
+-- what is ahead lies in the buffers
+ahead-bound : (e : Area) (b : Books) (x d : ℕ) → Ahead e b x d → InBooks (lendsFrom b 0) d
+ahead-bound a.Fa b x d z = uses-bound b (holds (λ v y. InRanges b v y) (OnSlot (b .held .fa)) No No) (record { icm = λ v y. (λ i. i, λ i. i); firmware = λ y i. i; auxiliary = λ y i. absurd i; lent = λ y i. absurd i }) d (inr (inl z))
+ahead-bound a.Aux b x d z = uses-bound b (holds (λ v y. InRanges b v y) No (OnSlot (b .held .aux)) No) (record { icm = λ v y. (λ i. i, λ i. i); firmware = λ y i. absurd i; auxiliary = λ y i. i; lent = λ y i. absurd i }) d (inr (inr (inl z)))
+ahead-bound (a.Range k) b x d z = uses-bound b (holds (λ v y. InRanges b v y) No No No) (record { icm = λ v y. (λ i. i, λ i. i); firmware = λ y i. absurd i; auxiliary = λ y i. absurd i; lent = λ y i. absurd i }) d (inl (x, z))
+
+-- what a MAP names lies in the buffers
+pub named-in : (b : Books) (k : Cutter) (c : Cutting k) (p : Command) → p .inMod ≡ length (firstBlocks 63 256 k) % 2 ^ 32 → p .mail .bytes ≡ mailboxOf (firstBlocks 63 256 k)
+    → (e : Area) → ((x d : ℕ) → AnyIn (blocksIn 63 k) x d → Ahead e b x d) → (d : ℕ) → Named p d → InBooks (lendsFrom b 0) d
+named-in b k c p count bytes e f d (x, z) = ahead-bound e b x d (f x d (listed b k c p count bytes x d z))
 
 -- A BUFFER ENTERS THE BOOKS: it was made last, and is freed in its place
 perm-into : {A : Type 0} (x : A) (ls ys zs : List A) → Perm (x ∷ ys) zs → Perm (x ∷ (ls ++ ys)) (ls ++ zs)

@@ -40,9 +40,9 @@ use Rattle.calls_plan.proofs.Begins.{length-input}
 use Rattle.card.specs.Card.{Held, Command, Card, Settles, Other, kind, IsMap, Meets, Hold, Host, World, MayUse, mailAt}
 use Rattle.card.proofs.Fixed.{safe-fixed}
 use Rattle.card.specs.Owns.{Owns, InBooks, spotOf}
-use Rattle.card.specs.Known.{Fits, Out, Within, postedAs}
+use Rattle.card.specs.Known.{Carried, Fits, Out, Within, postedAs}
 use Rattle.card.proofs.Command.{out-within, quiet-stable, within-more, within-stable}
-use Rattle.card.proofs.Owns.{owns-perm}
+use Rattle.card.proofs.Owns.{owns-perm, owns-ours}
 use Rattle.card.proofs.Making.{MadePost, safe-making}
 use Rattle.card.proofs.View.{other-effect}
 use Rattle.card_calls.specs.SafeCourse.{Sized, SafeCourse}
@@ -81,6 +81,9 @@ module _ (base : ℕ → Option Hold) (n : Info) (f : Failure) (z : Closing) (P 
     own : Calm b sent
     own = own-calm b (w .host) (i .boxes) (b .wire .toggle) p (h .inbox) other
 
+    carried : Carried p (w .host) (h .inbox)
+    carried d z = owns-ours (lendsFrom b 0) (w .host) (i .owns .own) (i .owns .dealt) d (own .1 d z)
+
     -- whether its end was seen is in the books, and then none is pending
     seen : (Q : Command → Type 0) (H : Held → Type 1) (a : CmdResult) (c : Card) → Out sent H Q a c → not (endSeen a) ≡ false → c .pending ≡ none
     seen Q H (r.Done y us) c x e = x .0
@@ -93,7 +96,7 @@ module _ (base : ℕ → Option Hold) (n : Info) (f : Failure) (z : Closing) (P 
     before : (t : Bool) → b .wire .silent ≡ t → ((e : CmdEnd) (j : Here) (v : World) → Fair j → Idle base n (wired b (after (b .wire) e)) v → SafeCourse v (K (e .result) (wired b (after (b .wire) e)) j) P)
         → SafeCourse w (sends b p K h) P
     before true s k =
-        safe-sends b p K (Lies b) (Mine b) P h w q fits (i .bound)
+        safe-sends b p K (Lies b) (Mine b) P h w q fits carried (i .bound)
         (λ v a j d e m. k a j v d (record {
           owns = subst (Owns base (lendsFrom b 0)) (sym e) (i .owns);
           boxes = moved-boxes b (after (b .wire) a) (w .host) (v .host) e (i .boxes);
@@ -103,7 +106,7 @@ module _ (base : ℕ → Option Hold) (n : Info) (f : Failure) (z : Closing) (P 
           broken = λ t. i .broken s;
         }))
     before false s k =
-        safe-sends b p K (Uses b) (Calm b) P h w q fits (i .exact s .card)
+        safe-sends b p K (Uses b) (Calm b) P h w q fits carried (i .exact s .card)
         (λ v a j d e m.
         let card : Within (Uses b) (Calm b) (v .card) = out-within sent (Uses b) (Calm b) (λ y x. subst (Uses b) (sym (other-effect sent y other)) x) own (a .result) (v .card) m in
         k a j v d (record {

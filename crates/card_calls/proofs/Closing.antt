@@ -38,7 +38,7 @@ use Rattle.card.proofs.View.{nothing-empty, other-effect}
 use Rattle.card.proofs.Owns.{safe-freeing}
 use Rattle.card_calls.specs.SafeCourse.{Typed, SafeCourse}
 use Rattle.card_calls.proofs.Courses.{Fair, safe-task, safe-sends, course-pick}
-use Rattle.card.specs.Known.{After, Clean, Empty, Fits, Out, Quiet, ResetPost, Stable, Within, postedAs}
+use Rattle.card.specs.Known.{After, Carried, Clean, Empty, Fits, Mailed, Out, Quiet, ResetPost, Stable, Within, postedAs}
 use Rattle.card_calls.specs.Owed.{Dropped, Owed, OwedBy, Stoppable}
 use Rattle.card.proofs.Bools.{or-left, or-right}
 
@@ -123,6 +123,11 @@ fits-undo u m t e = record {
 pub fits-imm : (op n x : ℕ) (m : Mail) → op < 0x1000 → (IsMap (kind op) → ⊥) → n < 2 ^ 32 → x < 2 ^ 64 → Fits (immOf op 0 n x) m
 fits-imm op n x m a never b d = record { op = a; opMod = omega arith; inMod = b; inParam = d; outParam = omega arith; addressed = λ z. absurd (never z) }
 
+-- a command of no MAP carries the mailboxes alone
+pub mailed-carried : (p : Post) (k l : Host) (i : List ℕ) → k ≡ l → Mailed l → (IsMap (kind (p .op)) → ⊥) → Carried p k i
+mailed-carried p k l i e m never =
+    subst (λ (z : Host). Carried p z i) (sym e) (λ d z. ⊎-elim (λ y. m .inbox d y) (λ u. ⊎-elim (λ y. m .outbox d y) (λ y. absurd (never (y .0))) u) z)
+
 pub popped-fair : (h : Here) → Fair h → Fair (here (h .inbox) (h .outbox) (popped (h .undo)))
 popped-fair h q = record { inbox = q .inbox; outbox = q .outbox; undo = record { opMod = q .undo .opMod; inMod = q .undo .inMod; inParam = q .undo .inParam } }
 
@@ -179,7 +184,7 @@ module _ (n : Info) (f : Failure) (P : World → Rest → Type 1) where
         safe-freed bs (λ k. parted n f x b k)
         (λ j v d y z. safe-parted (v .host) (Quiet Empty) (quiet-stable Empty) quiet-store x b (λ u a m. back u (subst (Owns base []) (sym a) y) m) j v d refl z) h w q o e
 
-    module _ (l : Host) (back : (x : Closing) (b : Books) (v : World) → (x ≡ c.Kept → ⊥) → Owns base [] (v .host) → Quiet Empty (v .card) → P v (atRest g.Ended (emptied b) n f x))
+    module _ (l : Host) (mailed : Mailed l) (back : (x : Closing) (b : Books) (v : World) → (x ≡ c.Kept → ⊥) → Owns base [] (v .host) → Quiet Empty (v .card) → P v (atRest g.Ended (emptied b) n f x))
         (kept : (b : Books) (v : World) → Owns base (lendsFrom b 0) (v .host) → v .host ≡ l → P v (atRest g.Ended b n f c.Kept)) where
       safe-giving : (x : Closing) (b : Books) (h : Here) (w : World) → (x ≡ c.Kept → ⊥) → Fair h → Owns base (lendsFrom b 0) (w .host) → Quiet Empty (w .card) → SafeCourse w (giving n f x b h) P
       unfolding giving
@@ -205,12 +210,12 @@ module _ (n : Info) (f : Failure) (P : World → Rest → Type 1) where
 
       -- a command of the closing: where it was good the next follows, and else the reset
       sent : (p : Post) (H G : Held → Type 1) (next : Books → Here → Course Rest) (b : Books) (h : Here) (w : World) → b .wire .silent ≡ false → Fair h → w .host ≡ l → Owns base (lendsFrom b 0) (w .host)
-          → Fits p (mailAt (w .host) (h .inbox)) → Within H (λ q. Unit {0}) (w .card)
+          → Fits p (mailAt (w .host) (h .inbox)) → (IsMap (kind (p .op)) → ⊥) → Within H (λ q. Unit {0}) (w .card)
           → ((k : Held) → After (postedAs (b .wire .toggle) p (mailAt (w .host) (h .inbox))) H k → G k)
           → ((y : Wire) (j : Here) (v : World) → y .silent ≡ false → Fair j → v .host ≡ l → Owns base (lendsFrom b 0) (v .host) → Quiet G (v .card) → SafeCourse v (next (wired b y) j) P)
           → SafeCourse w (sends b p (onward n f next) h) P
-      sent p H G next b h w s₀ q e o fits x gives follows =
-          safe-sends b p (onward n f next) H (λ y. Unit {0}) P h w q fits x
+      sent p H G next b h w s₀ q e o fits never x gives follows =
+          safe-sends b p (onward n f next) H (λ y. Unit {0}) P h w q fits (mailed-carried p (w .host) l (h .inbox) e mailed never) x
           (λ v a j k d m. by-result (a .result) (after (b .wire) a) v j s₀ k d m)
         where
           by-result : (a : CmdResult) (y : Wire) (v : World) (j : Here) → y .silent ≡ false → Fair j → v .host ≡ w .host → Out (postedAs (b .wire .toggle) p (mailAt (w .host) (h .inbox))) H (λ y. Unit {0}) a (v .card)
@@ -239,7 +244,7 @@ module _ (n : Info) (f : Failure) (P : World → Rest → Type 1) where
               → SafeCourse w (pick t (sends b (immOf 0xffe 0 0 0) (onward n f (stopped n f)) h) (stopped n f b h)) P
           by-held true x =
               sent (immOf 0xffe 0 0 0) (Owed (b .lists .icm) false 0 false true) (Owed (b .lists .icm) false 0 false false) (stopped n f) b h w l₁ q e o
-              (fits-imm 0xffe 0 0 _ (omega arith) (λ z. z) (omega arith) (omega arith)) (x .0) (owed-fa (b .lists .icm) _ refl)
+              (fits-imm 0xffe 0 0 _ (omega arith) (λ z. z) (omega arith) (omega arith)) (λ z. z) (x .0) (owed-fa (b .lists .icm) _ refl)
               (λ y j v i k d u z. safe-stopped (wired b y) j v i k d u (quiet-stoppable (Owed (b .lists .icm) false 0 false false) y (v .card) z))
           by-held false x = safe-stopped b h w l₁ q e o x
 
@@ -252,7 +257,7 @@ module _ (n : Info) (f : Failure) (P : World → Rest → Type 1) where
               → SafeCourse w (pick t (sends b (immOf 0xffb 0 0 0) (onward n f (unmapFa n f)) h) (unmapFa n f b h)) P
           by-held true x =
               sent (immOf 0xffb 0 0 0) (Owed (b .lists .icm) false 0 true (isHeld (b .held .fa))) (Owed (b .lists .icm) false 0 false (isHeld (b .held .fa))) (unmapFa n f) b h w l₁ q e o
-              (fits-imm 0xffb 0 0 _ (omega arith) (λ z. z) (omega arith) (omega arith)) (x .0) (owed-aux (b .lists .icm) _ (isHeld (b .held .fa)) refl)
+              (fits-imm 0xffb 0 0 _ (omega arith) (λ z. z) (omega arith) (omega arith)) (λ z. z) (x .0) (owed-aux (b .lists .icm) _ (isHeld (b .held .fa)) refl)
               (λ y j v i k d u z. safe-unmap-fa (wired b y) j v i k d u (quiet-stoppable (Owed (b .lists .icm) false 0 false (isHeld (b .held .fa))) y (v .card) z))
           by-held false x = safe-unmap-fa b h w l₁ q e o x
 
@@ -268,7 +273,7 @@ module _ (n : Info) (f : Failure) (P : World → Rest → Type 1) where
           sent (immOf 0xff9 0 (icmAt (b .lists .icm) i .pages % 2 ^ 32) (icmAt (b .lists .icm) i .virt)) (Owed (b .lists .icm) false (suc i) (isHeld (b .held .aux)) (isHeld (b .held .fa)))
           (Owed (b .lists .icm) false i (isHeld (b .held .aux)) (isHeld (b .held .fa))) (unmapping n f i) b h w l₁ q e o
           (fits-imm 0xff9 (icmAt (b .lists .icm) i .pages % 2 ^ 32) (icmAt (b .lists .icm) i .virt) _ (omega arith) (λ z. z) (let g : icmAt (b .lists .icm) i .pages % 2 ^ 32 < 2 ^ 32 = omega arith in g)
-          (a i (let g : i < suc i = omega arith in g))) (x .0)
+          (a i (let g : i < suc i = omega arith in g))) (λ z. z) (x .0)
           (owed-unmap (b .lists .icm) _ i (isHeld (b .held .aux)) (isHeld (b .held .fa)) refl refl refl)
           (λ y j v i₁ k d u z. safe-unmapping i (wired b y) j v (λ m less. a m (let g : m < suc i = omega (arith, less) in g)) i₁ k d u
           (quiet-stoppable (Owed (b .lists .icm) false i (isHeld (b .held .aux)) (isHeld (b .held .fa))) y (v .card) z))
@@ -283,7 +288,7 @@ module _ (n : Info) (f : Failure) (P : World → Rest → Type 1) where
           by-started true x =
               sent (immOf 0x008 0 0 0) (Owed (b .lists .icm) true (b .lists .ranges) (isHeld (b .held .aux)) (isHeld (b .held .fa)))
               (Owed (b .lists .icm) false (b .lists .ranges) (isHeld (b .held .aux)) (isHeld (b .held .fa))) (unmapping n f (b .lists .ranges)) b h w l₁ q e o
-              (fits-imm 0x008 0 0 _ (omega arith) (λ z. z) (omega arith) (omega arith)) (x .0)
+              (fits-imm 0x008 0 0 _ (omega arith) (λ z. z) (omega arith) (omega arith)) (λ z. z) (x .0)
               (owed-close (b .lists .icm) _ true (b .lists .ranges) (isHeld (b .held .aux)) (isHeld (b .held .fa)) refl)
               (λ y j v i k d u z. safe-unmapping (b .lists .ranges) (wired b y) j v a i k d u
               (quiet-stoppable (Owed (b .lists .icm) false (b .lists .ranges) (isHeld (b .held .aux)) (isHeld (b .held .fa))) y (v .card) z))
@@ -297,7 +302,7 @@ module _ (n : Info) (f : Failure) (P : World → Rest → Type 1) where
           course-pick (eqb (h .undo .count) 0) _ _ w P (λ t. safe-close-hca b h w a l₁ q e o x)
           (λ t. course-pick (isReserved (h .undo .op)) _ _ w P (λ d. safe-failing b h w l₁ q e o)
           (λ d. sent (undoPost (h .undo)) (OwedBy b) (OwedBy b) (undoing n f m) b (here (h .inbox) (h .outbox) (popped (h .undo))) w l₁ (popped-fair h q) e o
-          (fits-undo (h .undo) _ (q .undo) d) (x .0)
+          (fits-undo (h .undo) _ (q .undo) d) (λ z. subst IsMap (unreserved-other (h .undo .op) d) z) (x .0)
           (owed-other (b .lists .icm) _ (b .started) (b .lists .ranges) (isHeld (b .held .aux)) (isHeld (b .held .fa)) (unreserved-other (h .undo .op) d))
           (λ y j v i k s u z. safe-undoing m (wired b y) j v a i k s u (quiet-stoppable (OwedBy b) y (v .card) z))))
 

@@ -3,7 +3,7 @@ use Prim.Native.Nat.{ℕ, _^_, _<_}
 use native.Mathlib.Omega.{arith}
 use mathlib.Core.Bool.{Bool, true, false, false≢true}
 use mathlib.Core.List.{List, [], _++_}
-use mathlib.Core.Logic.{_⊎_, inl, ⊎-elim}
+use mathlib.Core.Logic.{_⊎_, inl, inr, ⊎-elim}
 use mathlib.Core.Option.{Option, some}
 use mathlib.Core.Path.{_≡_, refl, sym, _∙_, ap, subst}
 use Rattle.fields.specs.Outcome.{Outcome, value, refused, pick}
@@ -31,14 +31,14 @@ use Rattle.dma.specs.declared.Buffer.{Buffer}
 use Rattle.session.specs.declared.Hold.{Hold as Slot}
 use Rattle.card.specs.Card.{Held, Command, Card, Mail, Other, kind, effect, IsMap, StandsAt, OnBox, Hold, Host, World, mailAt}
 use Rattle.card.specs.Owns.{Owns, InBooks, spotOf}
-use Rattle.card.proofs.Owns.{In, in-left, in-right, in-books}
+use Rattle.card.proofs.Owns.{In, in-left, in-right, in-books, owns-ours}
 use Rattle.card.proofs.Command.{quiet-within, out-within}
 use Rattle.card.proofs.View.{other-effect}
 use Rattle.card_calls.proofs.Courses.{Fair, safe-sends}
 use Rattle.card_calls.proofs.Closing.{safe-stopping}
 use Rattle.card_calls.proofs.Books.{knows-owed, in-areas}
 use Rattle.card_calls.specs.SafeCourse.{SafeCourse}
-use Rattle.card.specs.Known.{After, Empty, Fits, Out, Quiet, Within, postedAs}
+use Rattle.card.specs.Known.{After, Carried, Empty, Fits, Mailed, Out, Quiet, Within, postedAs}
 use Rattle.card_calls.specs.Owed.{OwedBy}
 use Rattle.card_calls.specs.Holding.{Boxes, Calm, Mine, Entries, Knows, Ready}
 
@@ -100,28 +100,37 @@ own-calm b k x t p i e = (e, own-mine b k x t p i (λ z. subst IsMap e z))
 pub calm-within : (b : Books) (p : Command) (H : Held → Type 1) (a : CmdResult) (k : Card) → Calm b p → Out p H (Calm b) a k → Within H (Calm b) k
 calm-within b p H a k e x = out-within p H (Calm b) (calm-kept p H (e .0)) e a k x
 
+-- the mailboxes are the session's own
+pub boxes-mailed : (base : ℕ → Option Hold) (b : Books) (k : Host) → Boxes b k → Owns base (lendsFrom b 0) k → Mailed k
+boxes-mailed base b k x o =
+    let mine = own-mine b k x true (immOf 0 0 0 0) [] (λ z. z) in
+    record {
+      inbox = λ d z. owns-ours (lendsFrom b 0) k (o .own) (o .dealt) d (mine d (inl z));
+      outbox = λ d z. owns-ours (lendsFrom b 0) k (o .own) (o .dealt) d (mine d (inr (inl z)));
+    }
+
 -- THE OPENING'S ENDS: `back` and `kept` are what is to hold when all was given back, and when all was kept
 module _ (base : ℕ → Option Hold) (P : World → Rest → Type 1)
     (back : (n : Info) (y : Failure) (x : Closing) (b : Books) (v : World) → (x ≡ c.Kept → ⊥) → Owns base [] (v .host) → Quiet Empty (v .card) → P v (atRest g.Ended b n y x))
     (kept : (n : Info) (y : Failure) (b : Books) (v : World) → Owns base (lendsFrom b 0) (v .host) → P v (atRest g.Ended b n y c.Kept)) where
   -- the opening fails: closing runs
-  pub safe-fails : (y : Refusal) (n : Info) (b : Books) (h : Here) (w : World) → Fair h → Owns base (lendsFrom b 0) (w .host) → Entries b → b .wire .silent ≡ false
+  pub safe-fails : (y : Refusal) (n : Info) (b : Books) (h : Here) (w : World) → Fair h → Mailed (w .host) → Owns base (lendsFrom b 0) (w .host) → Entries b → b .wire .silent ≡ false
       → (b .wire .broken ≡ false → Quiet (OwedBy b) (w .card)) → SafeCourse w (fails y n b h) P
-  safe-fails y n b h w q x i l k =
-      safe-stopping n (f.By y) P base (w .host) (λ z d v e s t. back n (f.By y) z (emptied d) v e s t) (λ d v s t. kept n (f.By y) d v s) b h w (i .addressed) q refl x (λ t. l)
+  safe-fails y n b h w q mail x i l k =
+      safe-stopping n (f.By y) P base (w .host) mail (λ z d v e s t. back n (f.By y) z (emptied d) v e s t) (λ d v s t. kept n (f.By y) d v s) b h w (i .addressed) q refl x (λ t. l)
       (λ t. (quiet-within (OwedBy b) (λ p. Unit {0}) (w .card) (k t), λ e. k t .0))
 
   -- by a command that was not good: but for a status the session is broken, and nothing need be known of the card
-  pub safe-failed : (a : CmdResult) (z : Refusal) (n : Info) (b : Books) (y : Wire) (h : Here) (v : World) (p : Command) (H : Held → Type 1) (Q : Command → Type 0) → isDone a ≡ false → Fair h
+  pub safe-failed : (a : CmdResult) (z : Refusal) (n : Info) (b : Books) (y : Wire) (h : Here) (v : World) (p : Command) (H : Held → Type 1) (Q : Command → Type 0) → isDone a ≡ false → Fair h → Mailed (v .host)
       → Owns base (lendsFrom b 0) (v .host) → Entries b → y .silent ≡ false → ((k : Held) → H k → OwedBy b k) → Out p H Q a (v .card) → SafeCourse v (fails z n (brokenBy a (wired b y)) h) P
-  safe-failed (r.Done x us) z n b y h v p H Q e q s i l owed m = absurd (false≢true (sym e))
-  safe-failed (r.Status x us) z n b y h v p H Q e q s i l owed m = safe-fails z n (wired b y) h v q s i' l (λ t. (m .0, owed (v .card .held) (m .1)))
+  safe-failed (r.Done x us) z n b y h v p H Q e q mail s i l owed m = absurd (false≢true (sym e))
+  safe-failed (r.Status x us) z n b y h v p H Q e q mail s i l owed m = safe-fails z n (wired b y) h v q mail s i' l (λ t. (m .0, owed (v .card .held) (m .1)))
     where
       i' : Entries (wired b y)
       i' = record { room = i .room; lentRoom = i .lentRoom; small = i .small; addressed = i .addressed }
-  safe-failed (r.Timeout us) z n b y h v p H Q e q s i l owed m = safe-fails z n (wired (wired b y) (broken y)) h v q s (record { room = i .room; lentRoom = i .lentRoom; small = i .small; addressed = i .addressed }) l (λ t. absurd (false≢true (sym t)))
-  safe-failed r.Busy z n b y h v p H Q e q s i l owed m = safe-fails z n (wired (wired b y) (broken y)) h v q s (record { room = i .room; lentRoom = i .lentRoom; small = i .small; addressed = i .addressed }) l (λ t. absurd (false≢true (sym t)))
-  safe-failed (r.Bus us) z n b y h v p H Q e q s i l owed m = safe-fails z n (wired (wired b y) (broken y)) h v q s (record { room = i .room; lentRoom = i .lentRoom; small = i .small; addressed = i .addressed }) l (λ t. absurd (false≢true (sym t)))
+  safe-failed (r.Timeout us) z n b y h v p H Q e q mail s i l owed m = safe-fails z n (wired (wired b y) (broken y)) h v q mail s (record { room = i .room; lentRoom = i .lentRoom; small = i .small; addressed = i .addressed }) l (λ t. absurd (false≢true (sym t)))
+  safe-failed r.Busy z n b y h v p H Q e q mail s i l owed m = safe-fails z n (wired (wired b y) (broken y)) h v q mail s (record { room = i .room; lentRoom = i .lentRoom; small = i .small; addressed = i .addressed }) l (λ t. absurd (false≢true (sym t)))
+  safe-failed (r.Bus us) z n b y h v p H Q e q mail s i l owed m = safe-fails z n (wired (wired b y) (broken y)) h v q mail s (record { room = i .room; lentRoom = i .lentRoom; small = i .small; addressed = i .addressed }) l (λ t. absurd (false≢true (sym t)))
 
   -- the state is the same whatever the command register is like
   rewired : (b : Books) (y : Wire) (w v : World) → Ready base b w → y .silent ≡ false → v .host ≡ w .host → Quiet (Knows b) (v .card) → Ready base (wired b y) v
@@ -143,7 +152,7 @@ module _ (base : ℕ → Option Hold) (P : World → Rest → Type 1)
   }
 
   pub ready-fails : (y : Refusal) (n : Info) (b : Books) (h : Here) (w : World) → Fair h → Ready base b w → SafeCourse w (fails y n b h) P
-  ready-fails y n b h w q x = safe-fails y n b h w q (x .owns) (x .entries) (x .loud) (λ t. (x .card .0, knows-owed b (w .card .held) (x .entries) (x .card .1)))
+  ready-fails y n b h w q x = safe-fails y n b h w q (boxes-mailed base b (w .host) (x .boxes) (x .owns)) (x .owns) (x .entries) (x .loud) (λ t. (x .card .0, knows-owed b (w .card .held) (x .entries) (x .card .1)))
 
   -- a reply or a layout that is refused
   pub ready-value : {A : Type 0} (z : Outcome A) (k : A → Course Rest) (n : Info) (b : Books) (h : Here) (w : World) → Fair h → Ready base b w → ((y : A) → z ≡ value y → SafeCourse w (k y) P)
@@ -158,10 +167,13 @@ module _ (base : ℕ → Option Hold) (P : World → Rest → Type 1)
       → Out (postedAs (b .wire .toggle) p (mailAt (w .host) (h .inbox))) (Knows b) (Calm b) a (v .card) → SafeCourse v (K a (wired b (after (b .wire) e)) j) P)
       → SafeCourse w (sends b p K h) P
   safe-other p o K b h w q fits x seen unseen =
-      safe-sends b p K (Knows b) (Calm b) P h w q fits (quiet-within (Knows b) (Calm b) (w .card) (x .card)) (λ v a j k d m. by-result (a .result) a v j refl k d m)
+      safe-sends b p K (Knows b) (Calm b) P h w q fits carried (quiet-within (Knows b) (Calm b) (w .card) (x .card)) (λ v a j k d m. by-result (a .result) a v j refl k d m)
     where
       sent : Command
       sent = postedAs (b .wire .toggle) p (mailAt (w .host) (h .inbox))
+
+      carried : Carried p (w .host) (h .inbox)
+      carried d z = owns-ours (lendsFrom b 0) (w .host) (x .owns .own) (x .owns .dealt) d (own-calm b (w .host) (x .boxes) (b .wire .toggle) p (h .inbox) o .1 d z)
 
       within : (a : CmdResult) (k : Card) → Out sent (Knows b) (Calm b) a k → Within (Knows b) (Calm b) k
       within a k m = calm-within b sent (Knows b) a k (own-calm b (w .host) (x .boxes) (b .wire .toggle) p (h .inbox) o) m
@@ -202,8 +214,8 @@ module _ (base : ℕ → Option Hold) (P : World → Rest → Type 1)
       unseen (r.Done s us) e j v k t d m = absurd (false≢true (sym t))
       unseen (r.Status s us) e j v k t d m = absurd (false≢true (sym t))
       unseen (r.Timeout us) e j v k t d m =
-          safe-failed (r.Timeout us) (z (r.Timeout us)) n b (after (b .wire) e) j v (postedAs (b .wire .toggle) p (mailAt (w .host) (h .inbox))) (Knows b) (Calm b) refl k (subst (Owns base (lendsFrom b 0)) (sym d) (x .owns)) (x .entries) (x .loud) (λ g. knows-owed b g (x .entries)) m
+          safe-failed (r.Timeout us) (z (r.Timeout us)) n b (after (b .wire) e) j v (postedAs (b .wire .toggle) p (mailAt (w .host) (h .inbox))) (Knows b) (Calm b) refl k (subst Mailed (sym d) (boxes-mailed base b (w .host) (x .boxes) (x .owns))) (subst (Owns base (lendsFrom b 0)) (sym d) (x .owns)) (x .entries) (x .loud) (λ g. knows-owed b g (x .entries)) m
       unseen r.Busy e j v k t d m =
-          safe-failed r.Busy (z r.Busy) n b (after (b .wire) e) j v (postedAs (b .wire .toggle) p (mailAt (w .host) (h .inbox))) (Knows b) (Calm b) refl k (subst (Owns base (lendsFrom b 0)) (sym d) (x .owns)) (x .entries) (x .loud) (λ g. knows-owed b g (x .entries)) m
+          safe-failed r.Busy (z r.Busy) n b (after (b .wire) e) j v (postedAs (b .wire .toggle) p (mailAt (w .host) (h .inbox))) (Knows b) (Calm b) refl k (subst Mailed (sym d) (boxes-mailed base b (w .host) (x .boxes) (x .owns))) (subst (Owns base (lendsFrom b 0)) (sym d) (x .owns)) (x .entries) (x .loud) (λ g. knows-owed b g (x .entries)) m
       unseen (r.Bus us) e j v k t d m =
-          safe-failed (r.Bus us) (z (r.Bus us)) n b (after (b .wire) e) j v (postedAs (b .wire .toggle) p (mailAt (w .host) (h .inbox))) (Knows b) (Calm b) refl k (subst (Owns base (lendsFrom b 0)) (sym d) (x .owns)) (x .entries) (x .loud) (λ g. knows-owed b g (x .entries)) m
+          safe-failed (r.Bus us) (z (r.Bus us)) n b (after (b .wire) e) j v (postedAs (b .wire .toggle) p (mailAt (w .host) (h .inbox))) (Knows b) (Calm b) refl k (subst Mailed (sym d) (boxes-mailed base b (w .host) (x .boxes) (x .owns))) (subst (Owns base (lendsFrom b 0)) (sym d) (x .owns)) (x .entries) (x .loud) (λ g. knows-owed b g (x .entries)) m

@@ -19,7 +19,7 @@ use Rattle.card.specs.Card.{Held, Command, World, mailAt}
 use Rattle.card.specs.Safe.{Safe}
 use Rattle.card.proofs.Command.{CmdPost, safe-command}
 use Rattle.card_calls.specs.SafeCourse.{Typed, Lendable, SafeCourse}
-use Rattle.card.specs.Known.{Fits, Out, Within, postedAs}
+use Rattle.card.specs.Known.{Carried, Fits, Out, Within, postedAs}
 
 -- the mailboxes and the undo record that a call is lent
 pub record Fair (h : Here) : Type 0 where
@@ -97,14 +97,14 @@ module _ {A R : Type 0} (K : A → Here → Course R) (M : World → A → Type 
 
 -- A COMMAND in a course
 pub safe-sends : {R : Type 0} (b : Books) (p : Post) (K : CmdResult → Books → Here → Course R) (H : Held → Type 1) (Q : Command → Type 0) (P : World → R → Type 1) (h : Here) (w : World)
-    → Fair h → Fits p (mailAt (w .host) (h .inbox)) → Within H Q (w .card)
+    → Fair h → Fits p (mailAt (w .host) (h .inbox)) → Carried p (w .host) (h .inbox) → Within H Q (w .card)
     → ((v : World) (x : CmdEnd) (j : Here) → Fair j → v .host ≡ w .host → Out (postedAs (b .wire .toggle) p (mailAt (w .host) (h .inbox))) H Q (x .result) (v .card)
     → SafeCourse v (K (x .result) (wired b (after (b .wire) x)) j) P)
     → SafeCourse w (sends b p K h) P
-safe-sends b p K H Q P h w f fits x k =
+safe-sends b p K H Q P h w f fits car x k =
     safe-task (λ e j. K (e .result) (wired b (after (b .wire) e)) j) (CmdPost (catasFor (b .wire)) (h .inbox) (b .wire .toggle) p H Q (w .host)) P
     (command (catasFor (b .wire)) (h .inbox) (b .wire .toggle) p) h w f
-    (safe-command (catasFor (b .wire)) (h .inbox) (b .wire .toggle) p H Q (w .host) fits w refl x)
+    (safe-command (catasFor (b .wire)) (h .inbox) (b .wire .toggle) p H Q (w .host) fits car w refl x)
     (λ v a j g e m. k v a j g (m .0) (m .1))
 
 pub course-pick : {R : Type 0} (b : Bool) (x y : Course R) (w : World) (P : World → R → Type 1) → (b ≡ true → SafeCourse w x P) → (b ≡ false → SafeCourse w y P) → SafeCourse w (pick b x y) P

@@ -77,24 +77,21 @@ use Rattle.card.proofs.View.{nothing-empty, quiet-uses}
 use Rattle.card.proofs.Owns.{swap, owns-perm}
 use Rattle.card.proofs.Making.{Sound, MadePost, safe-making}
 use Rattle.card_calls.specs.SafeCourse.{SafeCourse}
-use Rattle.card_calls.specs.Ranges.{AsLaid}
+use Rattle.card_calls.specs.Ranges.{Capped, Accepted, AsLaid}
 use Rattle.card_calls.proofs.Courses.{Fair, fair-zeroed, safe-run, safe-task, course-pick}
 use Rattle.card_calls.proofs.Closing.{clean-differs, safe-restored, safe-parted, safe-all-freed}
 use Rattle.card_calls.proofs.Books.{knows-owed, knows-uses, knows-bound, ranged, entryOf, each-range}
 use Rattle.card_calls.proofs.Idle.{moved-boxes, ready-idle}
-use Rattle.card_calls.proofs.Commands.{fits-in, fits-out, fits-imm, safe-failed, ready-value, safe-other, safe-good}
+use Rattle.card_calls.proofs.Commands.{boxes-mailed, fits-in, fits-out, fits-imm, safe-failed, ready-value, safe-other, safe-good}
 use Rattle.card_calls.proofs.Areas.{Placed, safe-area, enters-fa, enters-aux, enters-range}
-use Rattle.card.specs.Known.{Clean, Empty, Nothing, Out, Quiet, ResetPost, Within, postedAs}
+use Rattle.card.specs.Known.{Clean, Empty, Mailed, Nothing, Out, Quiet, ResetPost, Within, postedAs}
 use Rattle.card_calls.specs.Holding.{Calm, Mine, Entries, Knows, Uses, Lies, Idle, Ready}
 
 -- THE LAYOUT's ranges
 pub record Laid (n : Info) : Type 0 where
   pub placed : (k : ℕ) → k < 14 → Placed (rangeAt n k .virt) (rangeAt n k .bytes)
   pub total : layoutIn n .total < 2 ^ 64
-
--- the capabilities are those of a reply
-abbrev pub Capped : Info → Type 0
-Capped n = (s : List ℕ) × (bar : Size) × Bytes s × (capabilityOf s bar ≡ value (n .cap))
+  pub accepted : Accepted n
 
 each-at : (Q : Range → Type 0) (rs : List Range) → gd.Each Q rs → (k : ℕ) → k < length rs → Q (getD rs k noRange)
 each-at Q [] e k h = absurd (let z : ⊥ = omega (arith, h) in z)
@@ -114,6 +111,7 @@ capped-laid n y (s, bar, bs, e) q =
       placed = λ k h. subst (λ (z : Layout). Placed (getD (z .ranges) k noRange .virt) (getD (z .ranges) k noRange .bytes)) (sym i)
           (good-placed (y .total) (getD (y .ranges) k noRange) (p .2) (each-at (GoodRange (y .total)) (y .ranges) (p .1 .each) k (subst (λ (z : ℕ). k < z) (sym (p .1 .fourteen)) h)));
       total = subst (λ (z : Layout). z .total < 2 ^ 64) (sym i) (let z = p .2 in omega (arith, z));
+      accepted = ((s, bar, bs, e), q ∙ ap value (sym i));
     }
 
 ports-few : (n : Info) → Capped n → n .cap .ports < 16
@@ -216,18 +214,21 @@ module _ (base : ℕ → Option Hold) (P : World → Rest → Type 1) (k₀ : Ho
       (λ y d j v p o t. safe-ranges k (suc i) n (wired (ranged b (entryOf (rangeAt n i .virt) y)) d) j v (omega (arith, s)) z o t (ap (λ (m : ℕ). m + 1) e ∙ (let g : i + 1 ≡ suc i = omega arith in g)) (more-laid y p less))
     where
       more-laid : (y : Buffer) → pagesFor (rangeAt n i .bytes) ≡ value (y .pages) → i < 14 → AsLaid n (ranged b (entryOf (rangeAt n i .virt) y)) (suc i)
-      more-laid y p less j g =
-          each-range b (x .entries) (subst (λ (m : ℕ). m < 14) (sym e) less) (entryOf (rangeAt n i .virt) y)
-          (λ k z. (z .virt ≡ rangeAt n k .virt) × (pagesFor (rangeAt n k .bytes) ≡ value (z .pages)))
-          (λ k t. laid k (subst (λ (m : ℕ). k < m) e t)) (subst (λ (m : ℕ). (rangeAt n i .virt ≡ rangeAt n m .virt) × (pagesFor (rangeAt n m .bytes) ≡ value (y .pages))) (sym e) (refl, p)) j
-          (subst (λ (m : ℕ). j < m + 1) (sym e) (omega (arith, g)))
+      more-laid y p less = (
+        z .accepted,
+        λ j g.
+            each-range b (x .entries) (subst (λ (m : ℕ). m < 14) (sym e) less) (entryOf (rangeAt n i .virt) y)
+            (λ k z. (z .virt ≡ rangeAt n k .virt) × (pagesFor (rangeAt n k .bytes) ≡ value (z .pages)))
+            (λ k t. laid .1 k (subst (λ (m : ℕ). k < m) e t)) (subst (λ (m : ℕ). (rangeAt n i .virt ≡ rangeAt n m .virt) × (pagesFor (rangeAt n m .bytes) ≡ value (y .pages))) (sym e) (refl, p)) j
+            (subst (λ (m : ℕ). j < m + 1) (sym e) (omega (arith, g))),
+      )
 
   -- nothing is mapped yet
   abbrev Bare : Books → Type 0
   Bare b = (b .held .aux ≡ o.Absent) × (b .lists .ranges ≡ 0)
 
-  none-laid : (n : Info) (b : Books) → AsLaid n b 0
-  none-laid n b k h = absurd (let z : ⊥ = omega (arith, h) in z)
+  none-laid : (n : Info) (b : Books) → Laid n → AsLaid n b 0
+  none-laid n b z = (z .accepted, λ k h. absurd (let z : ⊥ = omega (arith, h) in z))
 
   safe-size : (n : Info) (b : Books) (h : Here) (w : World) → Laid n → Fair h → Ready base b w → Bare b → SafeCourse w (setIcmSize n b h) P
   unfolding setIcmSize
@@ -236,7 +237,7 @@ module _ (base : ℕ → Option Hold) (P : World → Rest → Type 1) (k₀ : Ho
       (fits-imm 0xffd (layoutIn n .total) _ (omega arith) refl (z .total)) x
       (λ s y j v k d. safe-area base P back kept a.Aux (immediateOf s * 4096) (withAux (wired b y)) (mapIcm 14 0 n) n (wired b y) j v k d
       (λ t i m. enters-aux base P back kept (immediateOf s * 4096) n (wired b y) t i (e .0) (d .entries) m)
-      (λ t d₁ i u p o m. safe-ranges 14 0 n (wired (withAux (wired b y) t) d₁) i u refl z o m (e .1) (none-laid n (withAux b t))))
+      (λ t d₁ i u p o m. safe-ranges 14 0 n (wired (withAux (wired b y) t) d₁) i u refl z o m (e .1) (none-laid n (withAux b t) z)))
 
   safe-laying : (n : Info) (b : Books) (h : Here) (w : World) → Capped n → Fair h → Ready base b w → Bare b → SafeCourse w (layingOut n b h) P
   unfolding layingOut
@@ -288,15 +289,15 @@ module _ (base : ℕ → Option Hold) (P : World → Rest → Type 1) (k₀ : Ho
       unseen (r.Status s us) y j v k p z d i t = absurd (false≢true (sym z))
       unseen (r.Timeout us) y j v k p z d i t =
           safe-failed base P back kept (r.Timeout us) (failureOf (r.Timeout us)) n b (after (b .wire) y) j v
-          (postedAs (b .wire .toggle) (withInOf (b .held) 0x034 0) (mailAt (w .host) (filledBy (h .inbox) modStatCfg))) (Knows b) (Calm b) refl k
+          (postedAs (b .wire .toggle) (withInOf (b .held) 0x034 0) (mailAt (w .host) (filledBy (h .inbox) modStatCfg))) (Knows b) (Calm b) refl k (subst Mailed (sym d) (boxes-mailed base b (w .host) (x .boxes) (x .owns)))
           (subst (Owns base (lendsFrom b 0)) (sym d) (x .owns)) (x .entries) (x .loud) (λ g. knows-owed b g (x .entries)) t
       unseen r.Busy y j v k p z d i t =
           safe-failed base P back kept r.Busy (failureOf r.Busy) n b (after (b .wire) y) j v
-          (postedAs (b .wire .toggle) (withInOf (b .held) 0x034 0) (mailAt (w .host) (filledBy (h .inbox) modStatCfg))) (Knows b) (Calm b) refl k
+          (postedAs (b .wire .toggle) (withInOf (b .held) 0x034 0) (mailAt (w .host) (filledBy (h .inbox) modStatCfg))) (Knows b) (Calm b) refl k (subst Mailed (sym d) (boxes-mailed base b (w .host) (x .boxes) (x .owns)))
           (subst (Owns base (lendsFrom b 0)) (sym d) (x .owns)) (x .entries) (x .loud) (λ g. knows-owed b g (x .entries)) t
       unseen (r.Bus us) y j v k p z d i t =
           safe-failed base P back kept (r.Bus us) (failureOf (r.Bus us)) n b (after (b .wire) y) j v
-          (postedAs (b .wire .toggle) (withInOf (b .held) 0x034 0) (mailAt (w .host) (filledBy (h .inbox) modStatCfg))) (Knows b) (Calm b) refl k
+          (postedAs (b .wire .toggle) (withInOf (b .held) 0x034 0) (mailAt (w .host) (filledBy (h .inbox) modStatCfg))) (Knows b) (Calm b) refl k (subst Mailed (sym d) (boxes-mailed base b (w .host) (x .boxes) (x .owns)))
           (subst (Owns base (lendsFrom b 0)) (sym d) (x .owns)) (x .entries) (x .loud) (λ g. knows-owed b g (x .entries)) t
 
   safe-run-fw : (n : Info) (b : Books) (h : Here) (w : World) → Fair h → Ready base b w → Bare b → SafeCourse w (runFw n b h) P

@@ -19,14 +19,14 @@ use Rattle.session.specs.declared.Failure.{Failure}
 use Rattle.session.specs.declared.Closing.the-variants as c
 use Rattle.closing_plan.specs.Closing.{isDone, isHeld, undoPost, popped, UNDOS, failing, quieted, quiescing, stopped, onward, unmapFa, unmapAux, unmapping, closeHca, undoing}
 use Rattle.card.specs.Card.{Held, Command, Card, kind, effect, IsMap, Host, World, mailAt}
-use Rattle.card.specs.Known.{Fits, Within, postedAs}
+use Rattle.card.specs.Known.{Fits, Mailed, Within, postedAs}
 use Rattle.card.proofs.Command.{out-within, within-stable}
 use Rattle.card.proofs.Still.{safe-quieting}
 use Rattle.card.proofs.View.{held-before}
 use Rattle.card_calls.specs.SafeCourse.{SafeCourse}
 use Rattle.card_calls.specs.Holding.{Boxes, Mine, Lies, Entries}
 use Rattle.card_calls.proofs.Courses.{Fair, safe-task, safe-sends, course-pick}
-use Rattle.card_calls.proofs.Closing.{fits-imm, fits-undo, popped-fair, unreserved-other}
+use Rattle.card_calls.proofs.Closing.{fits-imm, fits-undo, mailed-carried, popped-fair, unreserved-other}
 use Rattle.card_calls.proofs.Commands.{own-mine}
 
 -- a command of no MAP adds nothing to what is held
@@ -35,7 +35,7 @@ unfolding effect
 lies-kept b p free k x = record { within = λ d z. ⊎-elim (λ y. x .within d y) (λ y. absurd (free (y .0))) (held-before (kind (p .opcode)) p k d z) }
 
 -- `quiets` is what is to hold when the quiesce has ended
-module _ (n : Info) (f : Failure) (P : World → Rest → Type 1) (l : Host) (b : Books) (x : Boxes b l) (i : Entries b)
+module _ (n : Info) (f : Failure) (P : World → Rest → Type 1) (l : Host) (b : Books) (x : Boxes b l) (i : Entries b) (mailed : Mailed l)
     (quiets : (y : Wire) (v : World) → y .silent ≡ true → v .host ≡ l → Within (Lies b) (Mine b) (v .card) → P v (atRest (g.Open gv.Nothing) (wired b (broken y)) n f c.Clean)) where
   abbrev Known : Card → Type 1
   Known k = Within (Lies b) (Mine b) k
@@ -56,7 +56,7 @@ module _ (n : Info) (f : Failure) (P : World → Rest → Type 1) (l : Host) (b 
       → ((z : Wire) (j : Here) (v : World) → z .silent ≡ true → Fair j → v .host ≡ l → Known (v .card) → SafeCourse v (next (wired b z) j) P)
       → SafeCourse w (sends (wired b y) p (onward n f next) h) P
   sent p next y h w s q e k fits free follows =
-      safe-sends (wired b y) p (onward n f next) (Lies b) (Mine b) P h w q fits k
+      safe-sends (wired b y) p (onward n f next) (Lies b) (Mine b) P h w q fits (mailed-carried p (w .host) l (h .inbox) e mailed free) k
       (λ v a j d o m.
       let known : Known (v .card) = out-within (postedAs (y .toggle) p (mailAt (w .host) (h .inbox))) (Lies b) (Mine b)
       (lies-kept b (postedAs (y .toggle) p (mailAt (w .host) (h .inbox))) free)

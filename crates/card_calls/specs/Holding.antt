@@ -17,7 +17,7 @@ use Rattle.session.specs.declared.Info.{Info}
 use Rattle.session.specs.declared.Area.{Area}
 use Rattle.session.specs.declared.Area.the-variants as a
 use Rattle.closing_plan.specs.Closing.{lendsFrom}
-use Rattle.card.specs.Card.{Held, Command, Other, kind, Meets, Hold, Host, World, Holds, Carries}
+use Rattle.card.specs.Card.{Held, Command, Other, kind, Meets, Hold, Host, World, IsHeld, Carries}
 use Rattle.card.specs.Known.{Quiet, Within}
 use Rattle.card.specs.Owns.{Owns, InBooks, spotOf}
 use Rattle.card_calls.specs.Ranges.{InRanges, AsLaid, AnyIn}
@@ -33,7 +33,8 @@ pub record Knows (b : Books) (g : Held) : Type 1 where
   pub auxiliary : (d : ℕ) → g .auxiliary d → OnSlot (b .held .aux) d
   pub lent : (d : ℕ) → g .lent d → ⊥
 
--- the lists have their places, for fourteen ranges and 64 lent buffers; each range has fewer than 2^32 pages at an address of 64 bits
+-- the lists have their places, for fourteen ranges and 64 lent buffers; each range has fewer than
+-- 2^32 pages at an address of 64 bits
 pub record Entries (b : Books) : Type 0 where
   pub room : length (b .lists .icm) ≡ 14
   pub lentRoom : length (b .lists .lent) ≡ 64
@@ -89,7 +90,8 @@ pub record Ready (base : ℕ → Option Hold) (b : Books) (w : World) : Type 1 w
   pub entries : Entries b
   pub loud : b .wire .silent ≡ false
 
--- OPEN: what the card holds is exactly the ranges, no more than the areas, and of lent pages no more than what is lent
+-- OPEN: what the card holds is exactly the ranges, no more than the areas, and of lent pages no
+-- more than what is lent
 abbrev pub lents : Books → List Buffer
 lents b = table (λ k. bufferAt (b .lists .lent) k) 0 (b .lists .lends - 0)
 
@@ -99,7 +101,8 @@ pub record Uses (b : Books) (g : Held) : Type 1 where
   pub auxiliary : (d : ℕ) → g .auxiliary d → OnSlot (b .held .aux) d
   pub lent : (d : ℕ) → g .lent d → InBooks (lents b) d
 
--- the books have the fourteen ranges of the layout, and the card's map is exactly these; a command that may be pending is of no effect
+-- the books have the fourteen ranges of the layout, and the card's map is exactly these; a command
+-- that may be pending is of no effect
 pub record Opened (n : Info) (b : Books) (w : World) : Type 1 where
   pub fourteen : b .lists .ranges ≡ 14
   pub laid : AsLaid n b 14
@@ -109,9 +112,10 @@ pub record Opened (n : Info) (b : Books) (w : World) : Type 1 where
 
 -- what is held lies in the buffers of the books
 pub record Lies (b : Books) (g : Held) : Type 1 where
-  pub within : (d : ℕ) → Holds g d → InBooks (lendsFrom b 0) d
+  pub within : (d : ℕ) → IsHeld g d → InBooks (lendsFrom b 0) d
 
--- BETWEEN TWO CALLS on an open session: it is open as above until a quiesce has begun, and broken from its end on
+-- BETWEEN TWO CALLS on an open session: it is open as above until a quiesce has begun, and broken
+-- from its end on
 pub record Idle (base : ℕ → Option Hold) (n : Info) (b : Books) (w : World) : Type 1 where
   pub owns : Owns base (lendsFrom b 0) (w .host)
   pub boxes : Boxes b (w .host)

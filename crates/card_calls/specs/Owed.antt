@@ -25,6 +25,7 @@ pub record Owed (icms : List Icm) (started : Bool) (n : ℕ) (aux fa : Bool) (h 
 abbrev pub OwedBy : Books → Held → Type 1
 OwedBy b = Owed (b .lists .icm) (b .started) (b .lists .ranges) (isHeld (b .held .aux)) (isHeld (b .held .fa))
 
--- what is known where nothing need be reset: what is held is among H; where no command was sent whose end was not seen, none is pending
+-- what is known where nothing need be reset: what is held is among H; where no command was sent
+-- whose end was not seen, none is pending
 abbrev pub Stoppable : (Held → Type 1) → Wire → Card → Type 1
 Stoppable H y k = Within H (λ p. Unit {0}) k × (y .running ≡ false → k .pending ≡ none)

@@ -1,4 +1,5 @@
--- What it is for a course to be safe: whatever the card and the host do, and whatever is lent with each reply, each question is allowed, and P holds at the end.
+-- What it is for a course to be safe: whatever the card and the host do, and whatever is lent with
+-- each reply, each question is allowed, and P holds at the end.
 use Prim.Native.Nat.{ℕ, _<_, _^_}
 use lib.ListN.{getD}
 use Rattle.pci.specs.Script.{Reply}

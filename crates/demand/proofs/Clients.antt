@@ -2,6 +2,7 @@
 use Prim.Native.Nat.{ℕ, zero, suc, _*_}
 use mathlib.Core.Bool.{Bool, true, false}
 use mathlib.Core.List.{List}
+use mathlib.Core.Option.{none}
 use mathlib.Core.Path.{_≡_, refl, sym, subst, ap, _∙_}
 use lib.Dec.{leb}
 use Rattle.fields.specs.Outcome.{Outcome, value, refused, pick}
@@ -37,10 +38,11 @@ use Rattle.closing_plan.specs.Closing.{isDone, UNDOS}
 use Rattle.closing_plan.specs.Plan.{cmdIn}
 use Rattle.client_plan.specs.Client.{givesOutput, postOf}
 use Rattle.client_plan.specs.Plan.{restPlan, commandPlan, lendPlan, lendEnded, undoSend, undoPlan, clientPlan}
-use Rattle.fw_plan.specs.Calls.{planOf, planAt, filled, withWork, begunOf, stepTurn, stepOf}
+use Rattle.fw_plan.specs.Calls.{planOf, planAt, filled, withWork, begunOf, stepTurn, stepOf, outcomeOf}
 use Rattle.calls_plan.specs.Calls.{readyIn, begunTurn}
 use Rattle.calls_plan.specs.declared.Call.{Call}
 use Rattle.calls_plan.specs.declared.Call.the-variants as c
+use Rattle.demand.specs.Events.{givenBy}
 
 abbrev pub IsClient : Stage → Type 0
 IsClient g.Fresh = ⊥
@@ -149,3 +151,15 @@ begun-same (c.UndoTo mark r) s input i u o d =
     let h = undo-steady s mark UNDOS u in filled-same (undoPlan s mark UNDOS u .fill) s (undoPlan s mark UNDOS u .session) (readyIn (c.UndoTo mark r) input i) (h .fill) (h .same) d
 begun-same c.Quiesce s input i u o d = absurd o
 begun-same c.Close s input i u o d = absurd o
+
+-- A LENDING that begins has given nothing yet
+pub lend-gives : (bytes : ℕ) (s : Session) (input i : List ℕ) (u : Top) → givenBy (outcomeOf (begunTurn s (c.Lend bytes) input i u .session)) ≡ none
+unfolding begunTurn lendPlan
+lend-gives bytes s input i u = by-pages (pagesFor bytes)
+  where
+    begun : Outcome ℕ → Planned
+    begun y = byOutcome y (λ n. planned (starts s (g.Client k.Lend) (t.Make (record { bytes = n * 4096; phase = mp.Allocate }))) w.Nothing (u .count)) (restPlan s (v.Failed x.Address) (u .count))
+
+    by-pages : (y : Outcome ℕ) → givenBy (outcomeOf (begunOf (begun y) (readyIn (c.Lend bytes) input i) .session)) ≡ none
+    by-pages (value n) = refl
+    by-pages (refused j vs) = refl

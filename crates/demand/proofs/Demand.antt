@@ -1,7 +1,6 @@
 -- THE THEOREM of demand 3: what is left of each call's course is safe, after every event.
-use Prim.Native.Nat.{ℕ, _+_, _<_}
-use native.Mathlib.Omega.{arith}
-use mathlib.Core.Bool.{Bool, true, false, false≢true}
+use Prim.Native.Nat.{ℕ, _+_, _/_, _<_}
+use mathlib.Core.Bool.{Bool, true, false, _&&_, false≢true}
 use mathlib.Core.List.{List, [], _∷_}
 use mathlib.Core.Logic.{_⊎_, inl, inr, ⊎-elim}
 use mathlib.Core.Option.{Option, some, none, Option·some-injective, Option·none-ne-some}
@@ -10,7 +9,7 @@ use lib.Dec.{eqb, leb}
 use borrow.Author.Tests.{eqb-true, leb-false}
 use lib.ListN.{length}
 use Rattle.fields.specs.Outcome.{pick}
-use Rattle.pci.specs.Script.{Ask, Reply, replyOf}
+use Rattle.pci.specs.Script.{Ask, Reply, shown, replyOf, configRead16, configRead32, configWrite16, configWrite32, read, write, attributes, resource, stall, allocate, mapped, unmap, free, fence}
 use Rattle.pci.specs.Machine.{Right}
 use Rattle.pci.specs.declared.Question.the-variants as q
 use Rattle.pci.specs.declared.Answer.{Answer}
@@ -25,7 +24,7 @@ use Rattle.work.specs.declared.Task.the-variants as t
 use Rattle.dma.specs.Buffers.{pagesFor}
 use Rattle.dma.specs.declared.Buffer.{Buffer}
 use Rattle.hcr.specs.Words.{isReserved}
-use Rattle.session.specs.Session.{wired, broken}
+use Rattle.session.specs.Session.{icmAt, wired, broken}
 use Rattle.session.specs.declared.Wire.{Wire}
 use Rattle.session.specs.declared.Gave.{Gave}
 use Rattle.session.specs.declared.Gave.the-variants as gv
@@ -37,79 +36,182 @@ use Rattle.session.specs.declared.Info.{Info}
 use Rattle.session.specs.declared.Stage.{Stage}
 use Rattle.session.specs.declared.Stage.the-variants as g
 use Rattle.session.specs.declared.Close.{Close}
+use Rattle.session.specs.declared.Prepare.{Prepare}
+use Rattle.session.specs.declared.Prepare.the-variants as p
 use Rattle.session.specs.declared.Failure.{Failure}
 use Rattle.session.specs.declared.Failure.the-variants as f
 use Rattle.session.specs.declared.Closing.{Closing}
 use Rattle.session.specs.declared.Closing.the-variants as c
 use Rattle.session.specs.declared.Session.{Session}
 use Rattle.closing_plan.specs.Closing.{lendsFrom, emptied}
-use Rattle.fw_plan.specs.Calls.{asksOf, isSession, isLent, answerable, inTime, refusedOf, answerOf, answerIn, stepTurn, stepOf, stepIn}
+use Rattle.fw_plan.specs.Calls.{asksOf, outcomeAt, isSession, isLent, answerable, inTime, refusedOf, answerOf, answerIn, stepTurn, stepOf, stepIn}
 use Rattle.calls_plan.specs.Calls.{isFresh, isOpen, isTime, callable, hasRoom, lentFor, byOpcode, byPages, byList, barred, begunTurn, begunInbox, unless, admitted, callOf, callIn, courseFor}
-use Rattle.calls_plan.specs.declared.Call.{Call as Made}
+use Rattle.calls_plan.specs.declared.Call.{Call}
 use Rattle.calls_plan.specs.declared.Call.the-variants as kn
 use Rattle.calls_plan.proofs.Begins.{begunAt, begins}
+use Rattle.calls_plan.proofs.Counts.{Loudly, step-fact, begun-fact}
 use Rattle.fw_plan.specs.Follows.{courseOf, courseAt, isRunning, hereAfter, Follows}
+use Rattle.fw_plan.specs.declared.Outcome.{Outcome}
 use Rattle.fw_plan.specs.declared.Turn.{Turn}
 use Rattle.fw_plan.proofs.Session.{session-follows}
-use Rattle.card.specs.Card.{Held, Command, Card, Settles, Hold, Host, World, WorldStep, MayUse, Allowed, Meets, Holds, Other, kind, effect, lendTo}
-use Rattle.card.specs.Owns.{Owns, Pairwise, Apart, InBooks, spotOf, outs, backs}
+use Rattle.card.specs.Card.{Held, Command, Card, Settles, Hold, standing, Host, HostStep, Ours, World, WorldStep, MayUse, Allowed, Meets, IsHeld, Other, kind, effect, lendTo}
+use Rattle.card.specs.Owns.{Owns, Pairwise, Apart, InBooks, InOrder, spotOf, holdOf}
 use Rattle.card.proofs.Command.{within-stable, within-more, quiet-stable}
 use Rattle.card.proofs.View.{empty-uses, held-before, other-effect}
 use Rattle.card.proofs.Fixed.{host-fixed}
-use Rattle.card.proofs.Once.{inHand, Balanced, step-balanced}
+use Rattle.card.proofs.Once.{Tied, step-tied}
+use Rattle.card.proofs.Owns.{owns-ours}
 use Rattle.card_calls.specs.SafeCourse.{Lendable, SafeCourse}
 use Rattle.card_calls.proofs.Courses.{Fair}
 use Rattle.card_calls.proofs.Closing.{safe-stopping}
-use Rattle.card_calls.proofs.Books.{uses-owed, in-books-left}
+use Rattle.card_calls.proofs.Books.{uses-owed, in-books-left, range-meets}
+use Rattle.card_calls.proofs.Commands.{boxes-mailed}
 use Rattle.card_calls.proofs.Idle.{moved-boxes, wired-uses, wired-entries, wired-bound}
 use Rattle.card_calls.proofs.Quiet.{safe-quiescing}
 use Rattle.card_calls.proofs.Client.{Given, safe-commanding, safe-lending, safe-undoing-to}
 use Rattle.card_calls.proofs.Calm.{CalmAsk, CalmCourse, calm-step, commanding-calm, lending-calm, undoing-to-calm}
 use Rattle.card_calls.proofs.Opening.{safe-opening}
-use Rattle.demand.specs.Events.{Call, callMake, callAnswer, Event, turn, asked, Stand, Rests, Answers, Happens, SameBox, boxLeft, isClosing, inboxAfter, isLending, bufferOf, givenAt, lentNow, lendsTo, SizedMade, Step}
-use Rattle.demand.specs.Demand.{QuestionKept, Exact, Returned, Kept, EndedBy, GoodAt, Good, Start, Always, Demand}
-use Rattle.demand.proofs.Plans.{IsRest, Fit, Suited, HeldAt, Known, HeldClose, held-all, held-map, held-step, Both, step-both, begun-needs, begun-both, fit-other, not-client, NotClient}
-use Rattle.demand.proofs.Clients.{IsClient, Same, OfClient, step-same, begun-same}
+use Rattle.demand.specs.Events.{Input, callMake, callAnswer, Event, turn, asked, Stand, Rests, Answers, Happens, SameBox, boxLeft, callsBy, asksBack, isClose, isOpening, tears, beganOnce, beganNow, inboxAfter, gaveBuffer, givenBy, lentBy, lentNow, lendsTo, SizedCall, Step}
+use Rattle.demand.specs.Demand.{GivesBack, QuestionKept, Inside, rangeOf, Exact, AllBack, AllKept, EndedBy, Never, Closed, Opened, NoQuiesce, hasReturned, Due, Good, Start, Always, Demand}
+use Rattle.demand.proofs.Plans.{IsRest, Starts, Fit, UnlessGiven, Suited, HeldAt, Known, held-map, held-step as plan-held, Both, step-both, Needed, begun-both}
+use Rattle.demand.proofs.Made.{Makes, starts-makes, unasked}
+use Rattle.demand.proofs.Clients.{IsClient, Same, OfClient, step-same, begun-same, lend-gives}
 use Rattle.demand.proofs.Settle.{settled-uses, at, rests-at, course-settled}
 use Rattle.demand.proofs.Questions.{asked-shown, rest-asks, nothing-asked, task-leaves}
-use Rattle.demand.proofs.OnePage.{one-page}
+use Rattle.demand.proofs.OnePage.{range-each, apart-at, one-page, some-page, single-page}
+use Rattle.demand.proofs.Inside.{HeldBy, held-step, same-gives, settled-inside, step-inside, step-gives}
+use Rattle.demand.proofs.Alive.{Alive, Busy, counted, step-alive, call-alive}
+use Rattle.opening_plan.specs.Values.{rangeAt}
 use Rattle.card.specs.Known.{Empty, Nothing, Quiet, Within}
 use Rattle.card_calls.specs.Owed.{OwedBy}
 use Rattle.card_calls.specs.Holding.{Boxes, Calm, Mine, Uses, Lies, Idle, lents}
-use Rattle.card_calls.specs.Ranges.{AsLaid}
+use Rattle.card_calls.specs.Ranges.{OnRange, AsLaid}
 use Rattle.card.proofs.Bools.{and-left, and-right}
 use Rattle.demand.proofs.Inbox.{step-length, call-length}
 
--- WHAT IS SO AT THE END OF A CALL. Nothing was asked of the host yet; or all is given back, and the card may use no page unless nothing was asked; or all is kept
-record Waiting (k : Host) (w : World) : Type 1 where
-  pub host : w .host ≡ k
+-- BY THE LAST CALL that was taken: in what stages it runs, and how it may end
+abbrev pub IsOpening : Call → Type 0
+IsOpening kn.Open = Unit {0}
+IsOpening (kn.Command y) = ⊥
+IsOpening (kn.Lend bytes) = ⊥
+IsOpening (kn.UndoTo mark r) = ⊥
+IsOpening kn.Quiesce = ⊥
+IsOpening kn.Close = ⊥
 
-record Back (base : ℕ → Option Hold) (k : Host) (w : World) : Type 1 where
+abbrev pub Tears : Call → Type 0
+Tears kn.Open = Unit {0}
+Tears (kn.Command y) = ⊥
+Tears (kn.Lend bytes) = ⊥
+Tears (kn.UndoTo mark r) = ⊥
+Tears kn.Quiesce = Unit {0}
+Tears kn.Close = Unit {0}
+
+abbrev pub EndsOpen : Call → Type 0
+EndsOpen kn.Open = Unit {0}
+EndsOpen (kn.Command y) = Unit {0}
+EndsOpen (kn.Lend bytes) = Unit {0}
+EndsOpen (kn.UndoTo mark r) = Unit {0}
+EndsOpen kn.Quiesce = Unit {0}
+EndsOpen kn.Close = ⊥
+
+abbrev pub Ends : Call → Type 0
+Ends kn.Open = Unit {0}
+Ends (kn.Command y) = ⊥
+Ends (kn.Lend bytes) = ⊥
+Ends (kn.UndoTo mark r) = ⊥
+Ends kn.Quiesce = ⊥
+Ends kn.Close = Unit {0}
+
+abbrev IsClosing : Call → Type 0
+IsClosing kn.Open = ⊥
+IsClosing (kn.Command y) = ⊥
+IsClosing (kn.Lend bytes) = ⊥
+IsClosing (kn.UndoTo mark r) = ⊥
+IsClosing kn.Quiesce = ⊥
+IsClosing kn.Close = Unit {0}
+
+closing-open : (d : Call) → IsClosing d → EndsOpen d → ⊥
+closing-open kn.Open a b = a
+closing-open (kn.Command y) a b = a
+closing-open (kn.Lend bytes) a b = a
+closing-open (kn.UndoTo mark r) a b = a
+closing-open kn.Quiesce a b = a
+closing-open kn.Close a b = b
+
+abbrev pub Last : (Call → Type 0) → List Call → Type 0
+Last P [] = ⊥
+Last P (d ∷ l) = P d
+
+abbrev pub Untaken : List Call → Type 0
+Untaken [] = Unit {0}
+Untaken (d ∷ l) = ⊥
+
+client-opening : (d : Call) → OfClient d → IsOpening d → ⊥
+client-opening kn.Open a b = a
+client-opening (kn.Command y) a b = b
+client-opening (kn.Lend bytes) a b = b
+client-opening (kn.UndoTo mark r) a b = b
+client-opening kn.Quiesce a b = a
+client-opening kn.Close a b = a
+
+client-tears : (d : Call) → OfClient d → Tears d → ⊥
+client-tears kn.Open a b = a
+client-tears (kn.Command y) a b = b
+client-tears (kn.Lend bytes) a b = b
+client-tears (kn.UndoTo mark r) a b = b
+client-tears kn.Quiesce a b = a
+client-tears kn.Close a b = a
+
+pub last-not : (P R : Call → Type 0) → ((d : Call) → P d → R d → ⊥) → (l : List Call) → Last P l → Last R l → ⊥
+last-not P R f [] a b = a
+last-not P R f (d ∷ l) a b = f d a b
+
+-- a quiesce is never taken back; an opening is the first call
+quieter : (d : Call) (l : List Call) → (IsOpening d → Untaken l) → NoQuiesce (d ∷ l) → NoQuiesce l
+quieter kn.Open [] f q = tt
+quieter kn.Open (d ∷ l) f q = absurd (f tt)
+quieter (kn.Command y) l f q = q
+quieter (kn.Lend bytes) l f q = q
+quieter (kn.UndoTo mark r) l f q = q
+quieter kn.Quiesce l f q = absurd q
+quieter kn.Close l f q = q
+
+loudly : (d : Call) (l : List Call) → Loudly (NoQuiesce (d ∷ l)) d
+loudly kn.Open l = tt
+loudly (kn.Command y) l = tt
+loudly (kn.Lend bytes) l = tt
+loudly (kn.UndoTo mark r) l = tt
+loudly kn.Quiesce l = λ q. q
+loudly kn.Close l = tt
+
+-- WHAT IS SO AT THE END OF A CALL. Nothing was asked of the host yet; or all is given back, and the card may use no page unless nothing was asked; or all is kept
+pub record Waiting (k : Host) (l : List Call) (w : World) : Type 1 where
+  pub host : w .host ≡ k
+  pub untaken : Untaken l
+
+pub record Back (base : ℕ → Option Hold) (k : Host) (w : World) : Type 1 where
   pub owns : Owns base [] (w .host)
   pub unused : (w .host ≡ k) ⊎ ((d : ℕ) → MayUse (w .card) d → ⊥)
 
-record Stays (base : ℕ → Option Hold) (b : Books) (w : World) : Type 1 where
+pub record Stays (base : ℕ → Option Hold) (b : Books) (w : World) : Type 1 where
   pub owns : Owns base (lendsFrom b 0) (w .host)
 
-record Never : Type 1 where
-  pub never : ⊥
-
-abbrev PostEnd : (ℕ → Option Hold) → Host → Books → World → Closing → Type 1
+abbrev pub PostEnd : (ℕ → Option Hold) → Host → Books → World → Closing → Type 1
 PostEnd base k b w c.Clean = Back base k w
 PostEnd base k b w c.Reset = Back base k w
 PostEnd base k b w c.Kept = Stays base b w
 
-abbrev PostAt : (ℕ → Option Hold) → Host → World → Info → Books → Closing → Stage → Type 1
-PostAt base k w n b z g.Fresh = Waiting k w
-PostAt base k w n b z (g.Open y) = Idle base n b w × Given y b
-PostAt base k w n b z g.Ended = PostEnd base k b w z
-PostAt base k w n b z (g.Prepare y) = Never
-PostAt base k w n b z (g.Boot y) = Never
-PostAt base k w n b z (g.Client y) = Never
-PostAt base k w n b z (g.Close y) = Never
+abbrev pub PostAt : (ℕ → Option Hold) → Host → List Call → World → Info → Books → Closing → Stage → Type 1
+PostAt base k l w n b z g.Fresh = Waiting k l w
+PostAt base k l w n b z (g.Open y) = Idle base n b w × Given y b × Last EndsOpen l
+PostAt base k l w n b z g.Ended = PostEnd base k b w z × Last Ends l
+PostAt base k l w n b z (g.Prepare y) = Never
+PostAt base k l w n b z (g.Boot y) = Never
+PostAt base k l w n b z (g.Client y) = Never
+PostAt base k l w n b z (g.Close y) = Never
 
-abbrev Post : (ℕ → Option Hold) → Host → World → Rest → Type 1
-Post base k w r = PostAt base k w (r .info) (r .books) (r .closing) (r .stage)
+abbrev pub Post : (ℕ → Option Hold) → Host → List Call → World → Rest → Type 1
+Post base k l w r = PostAt base k l w (r .info) (r .books) (r .closing) (r .stage)
 
 -- a command that ends between two events leaves it
 none-settled : (k d : Card) → Settles k d → k .pending ≡ none → d .pending ≡ none
@@ -140,25 +242,26 @@ idle-settled base n b w d s x = record {
   broken = x .broken;
 }
 
-post-settled : (base : ℕ → Option Hold) (k : Host) (w : World) (d : Card) (n : Info) (b : Books) (z : Closing) (st : Stage) → Settles (w .card) d → PostAt base k w n b z st → PostAt base k (at w d) n b z st
-post-settled base k w d n b z g.Fresh s x = record { host = x .host }
-post-settled base k w d n b z (g.Open y) s x = (idle-settled base n b w d s (x .0), x .1)
-post-settled base k w d n b z g.Ended s x = end-settled base k b w d z s x
-post-settled base k w d n b z (g.Prepare y) s x = record { never = x .never }
-post-settled base k w d n b z (g.Boot y) s x = record { never = x .never }
-post-settled base k w d n b z (g.Client y) s x = record { never = x .never }
-post-settled base k w d n b z (g.Close y) s x = record { never = x .never }
+post-settled : (base : ℕ → Option Hold) (k : Host) (l : List Call) (w : World) (d : Card) (n : Info) (b : Books) (z : Closing) (st : Stage) → Settles (w .card) d → PostAt base k l w n b z st → PostAt base k l (at w d) n b z st
+post-settled base k l w d n b z g.Fresh s x = record { host = x .host; untaken = x .untaken }
+post-settled base k l w d n b z (g.Open y) s x = (idle-settled base n b w d s (x .0), x .1, x .2)
+post-settled base k l w d n b z g.Ended s x = (end-settled base k b w d z s (x .0), x .1)
+post-settled base k l w d n b z (g.Prepare y) s x = record { never = x .never }
+post-settled base k l w d n b z (g.Boot y) s x = record { never = x .never }
+post-settled base k l w d n b z (g.Client y) s x = record { never = x .never }
+post-settled base k l w d n b z (g.Close y) s x = record { never = x .never }
 
 -- WHILE A CLIENT'S CALL RUNS, before a quiesce: the map is what it was
-abbrev Still : Command → Type 0
+abbrev pub Still : Command → Type 0
 Still p = kind (p .opcode) ≡ Other
 
-record Live (n : Info) (b : Books) (w : World) : Type 1 where
+pub record Live (n : Info) (b : Books) (w : World) : Type 1 where
   pub fourteen : b .lists .ranges ≡ 14
   pub laid : AsLaid n b 14
   pub apart : Pairwise Apart (lendsFrom b 0)
   pub card : Within (Uses b) Still (w .card)
   pub boxes : Boxes b (w .host)
+  pub held : (j : ℕ) → j < 14 → HeldBy (rangeOf b j) (w .host)
 
 idle-live : (base : ℕ → Option Hold) (n : Info) (b : Books) (w : World) → Idle base n b w → b .wire .silent ≡ false → Live n b w
 idle-live base n b w i s = let o = i .exact s in record {
@@ -167,6 +270,12 @@ idle-live base n b w i s = let o = i .exact s in record {
   apart = i .owns .apart;
   card = within-more (Uses b) (Uses b) (Calm b) Still (w .card) (λ h x. x) (λ p x. x .0) (o .card);
   boxes = i .boxes;
+  held = λ j l.
+      let l₁ = subst (λ (m : ℕ). j < m) (sym (o .fourteen)) l in
+      record {
+        hand = range-each (λ y. w .host .hand (y .handle) ≡ some (holdOf y)) b (i .owns .own) j l₁;
+        deal = range-each (λ y. standing (y .handle) (w .host .log) ≡ some (y .pages)) b (i .owns .dealt) j l₁;
+      };
 }
 
 live-wired : (n : Info) (b : Books) (y : Wire) (w : World) → Live n b w → Live n (wired b y) w
@@ -176,6 +285,7 @@ live-wired n b y w x = record {
   apart = x .apart;
   card = within-more (Uses b) (Uses (wired b y)) Still Still (w .card) (wired-uses b y) (λ p z. z) (x .card);
   boxes = moved-boxes b y (w .host) (w .host) refl (x .boxes);
+  held = x .held;
 }
 
 -- the same books but for the command register
@@ -184,10 +294,10 @@ live-same s u w e x =
     subst (λ (n : Info). Live n (u .books) w) (sym (e .info)) (subst (λ (b : Books). Live (s .info) b w) (sym (e .books)) (live-wired (s .info) (s .books) (u .books .wire) w x))
 
 live-settled : (n : Info) (b : Books) (w : World) (d : Card) → Settles (w .card) d → Live n b w → Live n b (at w d)
-live-settled n b w d s x = record { fourteen = x .fourteen; laid = x .laid; apart = x .apart; card = within-stable (Uses b) Still (w .card) d s (x .card); boxes = x .boxes }
+live-settled n b w d s x = record { fourteen = x .fourteen; laid = x .laid; apart = x .apart; card = within-stable (Uses b) Still (w .card) d s (x .card); boxes = x .boxes; held = x .held }
 
-live-step : (n : Info) (b : Books) (w v : World) (q : Ask) (r : Reply q) → CalmAsk q → WorldStep w q r v → Live n b w → Live n b v
-live-step n b w v q r calm st x =
+live-step : (n : Info) (b : Books) (w v : World) (q : Ask) (r : Reply q) (i : List ℕ) → Allowed i w q → CalmAsk q → WorldStep w q r v → Live n b w → Live n b v
+live-step n b w v q r i al calm st x =
     let f = host-fixed (spotOf (x .boxes .inbox)) (spotOf (x .boxes .outbox)) q r (w .host) (v .host) (st .1) (x .boxes .inAt, x .boxes .outAt) in
     record {
       fourteen = x .fourteen;
@@ -204,6 +314,14 @@ live-step n b w v q r calm st x =
         inLess = x .boxes .inLess;
         outLess = x .boxes .outLess;
       };
+      -- the card uses the first page of each range
+      held = λ j l.
+          let e = icmAt (b .lists .icm) j in
+          let l₁ : j < b .lists .ranges = subst (λ (m : ℕ). j < m) (sym (x .fourteen)) l in
+          let p : 0 < e .pages = some-page (rangeAt n j .bytes) (e .pages) (x .laid .1 j l .1) in
+          let on : OnRange e (e .virt / 4096 + 0) (e .dev / 4096 + 0) = (0, p, refl, refl) in
+          held-step (rangeOf b j) w v (e .dev / 4096 + 0) (range-meets e (e .virt / 4096 + 0) (e .dev / 4096 + 0) on)
+          (inl (inl (e .virt / 4096 + 0, x .card .now .icm (e .virt / 4096 + 0) (e .dev / 4096 + 0) .1 (j, l₁, on)))) (x .held j l) q r i al (st .1);
     }
 
 -- what is lent when a lending has ended lies in the books
@@ -228,31 +346,77 @@ given-lent base n b w y lies x = record {
     more : Held
     more = lendTo (Meets (spotOf y)) (w .card) .held
 
-    held : (h : Held) → Lies b h → (d : ℕ) → Holds (lendTo (Meets (spotOf y)) (record { held = h; pending = w .card .pending; last = w .card .last; status = w .card .status; registers = w .card .registers; mail = w .card .mail }) .held) d → InBooks (lendsFrom b 0) d
+    held : (h : Held) → Lies b h → (d : ℕ) → IsHeld (lendTo (Meets (spotOf y)) (record { held = h; pending = w .card .pending; last = w .card .last; status = w .card .status; registers = w .card .registers; mail = w .card .mail }) .held) d → InBooks (lendsFrom b 0) d
     held h l d (inl z) = l .within d (inl z)
     held h l d (inr (inl z)) = l .within d (inr (inl z))
     held h l d (inr (inr (inl z))) = l .within d (inr (inr (inl z)))
     held h l d (inr (inr (inr (inl z)))) = l .within d (inr (inr (inr z)))
     held h l d (inr (inr (inr (inr z)))) = in-books-left (lents b) _ d (lies d z)
 
-    later : (p : Command) (e : w .card .pending ≡ some p) (d : ℕ) → Holds (effect p more) d → InBooks (lendsFrom b 0) d
+    later : (p : Command) (e : w .card .pending ≡ some p) (d : ℕ) → IsHeld (effect p more) d → InBooks (lendsFrom b 0) d
     later p e d z = ⊎-elim (λ u. held (w .card .held) (x .bound .now) d u) (λ u. x .bound .then p e .0 d (inr (inr u))) (held-before (kind (p .opcode)) p more d z)
 
     uses : Uses b (w .card .held) → Uses b more
     uses o = record { icm = o .icm; firmware = o .firmware; auxiliary = o .auxiliary; lent = λ d z. ⊎-elim (λ u. o .lent d u) (λ u. lies d u) z }
 
+-- THE CLOSING HAS NOT BEGUN, or the host is as it was then
+abbrev pub AsBegan : Host → Option Host → Type 0
+AsBegan k z = (l : Host) → z ≡ some l → k ≡ l
+
+-- an opening whose closing has not begun, and its task
+abbrev pub Opens : Option Host → Host → Task → Type 0
+Opens z k x = (z ≡ none) × Makes x k
+
+opens-again : (z : Option Host) (k : Host) (x y : Task) → Starts y → Opens z k x → Opens z k y
+opens-again z k x y e o = (o .0, starts-makes y k e)
+
+none-began : (k : Host) (z : Option Host) → z ≡ none → AsBegan k z
+none-began k z e l q = absurd (Option·none-ne-some l (sym e ∙ q))
+
+-- a call that is taken
+begun-at : (d : Call) (k l : Host) (z : Option Host) → z ≡ pick (isClose d) (some k) none → l ≡ k → AsBegan l z
+begun-at kn.Open k l z e h = none-began l z e
+begun-at (kn.Command y) k l z e h = none-began l z e
+begun-at (kn.Lend bytes) k l z e h = none-began l z e
+begun-at (kn.UndoTo mark r) k l z e h = none-began l z e
+begun-at kn.Quiesce k l z e h = none-began l z e
+begun-at kn.Close k l z e h = λ m q. h ∙ Option·some-injective k m (sym e ∙ q)
+
+needs : (d : Call) (k l : Host) (z : Option Host) → z ≡ pick (isClose d) (some k) none → Needed (OfClient d) (IsOpening d) (Tears d) (Opens z l) (opens-again z l) d
+needs kn.Open k l z e = (tt, tt, λ x h. (e, starts-makes x l h))
+needs (kn.Command y) k l z e = tt
+needs (kn.Lend bytes) k l z e = tt
+needs (kn.UndoTo mark r) k l z e = tt
+needs kn.Quiesce k l z e = tt
+needs kn.Close k l z e = tt
+
+-- an answer to a question that asks nothing usable back
+never-tears : (l : List Call) (p : Ask) (k : Host) → asksBack k p ≡ false → tears l (some p) k ≡ false
+never-tears l p k e = ap (λ (b : Bool). isOpening l && b) e ∙ and-false (isOpening l)
+  where
+    and-false : (b : Bool) → (b && false) ≡ false
+    and-false true = refl
+    and-false false = refl
+
+once-more : (k : Host) (z : Option Host) → beganOnce false k z ≡ z
+once-more k none = refl
+once-more k (some l) = refl
+
 -- THE INVARIANT
-record Inv (base : ℕ → Option Hold) (k : Host) (x : Stand) : Type 1 where
+pub record Inv (base : ℕ → Option Hold) (k : Host) (x : Stand) : Type 1 where
   pub there : Here
   pub box : there .inbox ≡ x .inbox
-  pub safe : SafeCourse (x .world) (courseOf (x .session) there) (Post base k)
-  pub balanced : Balanced base (x .world .host)
-  pub suited : Suited (Unit {0}) (x .session)
-  pub held : HeldAt (x .session .stage) (x .session .closing) (x .world .host ≡ x .began)
+  pub safe : SafeCourse (x .world) (courseOf (x .session) there) (Post base k (x .calls))
+  pub tied : Tied (x .world .host)
+  pub inside : Inside (x .world)
+  pub suited : Suited (Last OfClient (x .calls)) (Last IsOpening (x .calls)) (Last Tears (x .calls)) (Opens (x .began) (x .world .host)) (x .session)
+  pub held : HeldAt (x .session .stage) (x .session .closing) (AsBegan (x .world .host) (x .began))
+  pub alive : Alive (x .session)
+  pub loud : NoQuiesce (x .calls) → x .session .books .wire .silent ≡ false
   pub long : isRunning (x .session .stage) ≡ true → length (x .inbox) ≡ 4096
   -- a client's call: no question of it changes the map, which is as it was
   pub calm : IsClient (x .session .stage) → CalmCourse (courseOf (x .session) there)
-  pub live : IsClient (x .session .stage) → x .session .books .wire .silent ≡ false → Live (x .session .info) (x .session .books) (x .world)
+  pub live : IsClient (x .session .stage) → NoQuiesce (x .calls) → Live (x .session .info) (x .session .books) (x .world)
 
 -- a call in time, and with all that it must be lent; or not
 pub in-good : {A : Type 0} (t r : Bool) (y s w : A) → t ≡ true → r ≡ true → inTime t r y s w ≡ y
@@ -269,7 +433,7 @@ in-wrong : {A : Type 0} (t r : Bool) (y s w : A) → t ≡ false → inTime t r 
 in-wrong true r y s w p = absurd (false≢true (sym p))
 in-wrong false r y s w p = refl
 
-lent-length : (i o : List ℕ) (u : Top) → isLent i o u ≡ true → length i ≡ 4096
+pub lent-length : (i o : List ℕ) (u : Top) → isLent i o u ≡ true → length i ≡ 4096
 lent-length i o u e = eqb-true (length i) 4096 (and-left (eqb (length i) 4096) _ e)
 
 fresh-stage : (st : Stage) → isFresh st ≡ true → st ≡ g.Fresh
@@ -299,8 +463,18 @@ open-stage (g.Boot y) e = absurd (false≢true e)
 open-stage (g.Client y) e = absurd (false≢true e)
 open-stage (g.Close y) e = absurd (false≢true e)
 
+-- what must be so where a client's call is under way
+client-fits : (C P D : Type 0) (T : Task → Type 0) (st : Stage) (z : Closing) (x : Task) → IsClient st → Fit C P D T st z x → C
+client-fits C P D T g.Fresh z x q h = absurd q
+client-fits C P D T (g.Open y) z x q h = absurd q
+client-fits C P D T g.Ended z x q h = absurd q
+client-fits C P D T (g.Prepare y) z x q h = absurd q
+client-fits C P D T (g.Boot y) z x q h = absurd q
+client-fits C P D T (g.Client y) z x q h = h
+client-fits C P D T (g.Close y) z x q h = absurd q
+
 -- a task that is not under way
-resting : (z : Task) → isResting z ≡ true → IsRest z
+pub resting : (z : Task) → isResting z ≡ true → IsRest z
 resting t.Rest e = tt
 resting (t.Attr z) e = absurd (false≢true e)
 resting (t.Claim z) e = absurd (false≢true e)
@@ -312,11 +486,6 @@ resting t.Look e = absurd (false≢true e)
 resting (t.Cmd z) e = absurd (false≢true e)
 resting (t.Part z) e = absurd (false≢true e)
 
--- the host as it was when the closing began
-began-kept : (b : Bool) (was now k l : Host) → now ≡ pick b was l → l ≡ k → k ≡ was → l ≡ now
-began-kept true was now k l e h i = h ∙ i ∙ sym e
-began-kept false was now k l e h i = sym e
-
 -- a step that is taken refuses nothing
 turn-taken : (s : Session) (a : Answer) (w : Work) (i o : List ℕ) (u : Top) (n : Ending) → stepTurn s a w i o u n .refusal ≡ f.Nothing
 turn-taken s a w i o u e.Going = refl
@@ -326,185 +495,304 @@ pub step-taken : (s : Session) (a : Answer) (r i o : List ℕ) (u : Top) → ste
 unfolding stepOf
 step-taken s a r i o u = turn-taken s a (workStepOf (s .work) a r .work) i o u (workStepOf (s .work) a r .ending)
 
-abbrev event : Call → List ℕ → List ℕ → Top → Event
+abbrev event : Input → List ℕ → List ℕ → Top → Event
 event a i o u = record { call = a; inbox = i; outbox = o; undo = u }
-
--- a stage that is a client's and is none
-clash : (st : Stage) → NotClient st → IsClient st → ⊥
-clash g.Fresh a b = b
-clash (g.Open y) a b = b
-clash g.Ended a b = b
-clash (g.Prepare y) a b = b
-clash (g.Boot y) a b = b
-clash (g.Client y) a b = a
-clash (g.Close y) a b = b
-
-never : (s : Session) → Both ⊥ (Unit {0}) s → IsClient (s .stage) → ⊥
-never s b h = clash (s .stage) (not-client (s .stage) (s .closing) (s .work .task) (b .0)) h
-
-unit-held : (y : Close) (z : Closing) → HeldClose y z (Unit {0})
-unit-held y z = held-all (g.Close y) z (Unit {0}) tt
-
-open-lends : (st : Stage) → isOpen st ≡ true → isLending st ≡ false
-open-lends g.Fresh e = refl
-open-lends (g.Open y) e = refl
-open-lends g.Ended e = refl
-open-lends (g.Prepare y) e = refl
-open-lends (g.Boot y) e = refl
-open-lends (g.Client y) e = absurd (false≢true e)
-open-lends (g.Close y) e = refl
-
-open-closes : (st : Stage) → isOpen st ≡ true → isClosing st ≡ false
-open-closes g.Fresh e = refl
-open-closes (g.Open y) e = refl
-open-closes g.Ended e = refl
-open-closes (g.Prepare y) e = refl
-open-closes (g.Boot y) e = refl
-open-closes (g.Client y) e = refl
-open-closes (g.Close y) e = absurd (false≢true e)
-
-client-lends : (b : Bool) (st : Stage) → IsClient st → pick b (givenAt st) none ≡ none
-client-lends true g.Fresh h = refl
-client-lends true (g.Open y) h = absurd h
-client-lends true g.Ended h = refl
-client-lends true (g.Prepare y) h = refl
-client-lends true (g.Boot y) h = refl
-client-lends true (g.Client y) h = refl
-client-lends true (g.Close y) h = refl
-client-lends false st h = refl
 
 lent-host : (b : Option Buffer) (w : World) → lendsTo b w .host ≡ w .host
 lent-host none w = refl
 lent-host (some y) w = refl
 
 -- a buffer was given: the session is open and says so
-lent-given : (s t : Stage) (y : Buffer) → lentNow s t ≡ some y → t ≡ g.Open (gv.Lent y)
-lent-given s t y e = by (isLending s) e
+given-open : (y : Failure) (z : Closing) (st : Stage) (x : Buffer) → givenBy (outcomeAt y z st) ≡ some x → st ≡ g.Open (gv.Lent x)
+given-open y z g.Fresh x e = absurd (Option·none-ne-some x e)
+given-open y z (g.Open v) x e = ap g.Open (gave v e)
   where
-    gave : (z : Gave) → bufferOf z ≡ some y → z ≡ gv.Lent y
-    gave gv.Nothing e = absurd (Option·none-ne-some y e)
-    gave (gv.Command v us) e = absurd (Option·none-ne-some y e)
-    gave (gv.Lent b) e = ap gv.Lent (Option·some-injective b y e)
-    gave (gv.Failed v) e = absurd (Option·none-ne-some y e)
+    gave : (v : Gave) → gaveBuffer v ≡ some x → v ≡ gv.Lent x
+    gave gv.Nothing e = absurd (Option·none-ne-some x e)
+    gave (gv.Command v us) e = absurd (Option·none-ne-some x e)
+    gave (gv.Lent b) e = ap gv.Lent (Option·some-injective b x e)
+    gave (gv.Failed v) e = absurd (Option·none-ne-some x e)
+given-open f.Nothing z g.Ended x e = absurd (Option·none-ne-some x e)
+given-open (f.By w) z g.Ended x e = absurd (Option·none-ne-some x e)
+given-open y z (g.Prepare v) x e = absurd (Option·none-ne-some x e)
+given-open y z (g.Boot v) x e = absurd (Option·none-ne-some x e)
+given-open y z (g.Client v) x e = absurd (Option·none-ne-some x e)
+given-open y z (g.Close v) x e = absurd (Option·none-ne-some x e)
 
-    at-open : (t : Stage) → givenAt t ≡ some y → t ≡ g.Open (gv.Lent y)
-    at-open g.Fresh e = absurd (Option·none-ne-some y e)
-    at-open (g.Open z) e = ap g.Open (gave z e)
-    at-open g.Ended e = absurd (Option·none-ne-some y e)
-    at-open (g.Prepare z) e = absurd (Option·none-ne-some y e)
-    at-open (g.Boot z) e = absurd (Option·none-ne-some y e)
-    at-open (g.Client z) e = absurd (Option·none-ne-some y e)
-    at-open (g.Close z) e = absurd (Option·none-ne-some y e)
+pub lent-given : (l : List Call) (s : Session) (y : Buffer) → lentBy l s ≡ some y → s .stage ≡ g.Open (gv.Lent y)
+lent-given [] s y e = absurd (Option·none-ne-some y e)
+lent-given (kn.Open ∷ l) s y e = absurd (Option·none-ne-some y e)
+lent-given (kn.Command v ∷ l) s y e = absurd (Option·none-ne-some y e)
+lent-given (kn.Lend bytes ∷ l) s y e = given-open (s .failure) (s .closing) (s .stage) y e
+lent-given (kn.UndoTo mark r ∷ l) s y e = absurd (Option·none-ne-some y e)
+lent-given (kn.Quiesce ∷ l) s y e = absurd (Option·none-ne-some y e)
+lent-given (kn.Close ∷ l) s y e = absurd (Option·none-ne-some y e)
 
-    by : (b : Bool) → pick b (givenAt t) none ≡ some y → t ≡ g.Open (gv.Lent y)
-    by true e = at-open t e
-    by false e = absurd (Option·none-ne-some y e)
+-- so where a client's call goes on nothing is lent
+not-open : (st : Stage) (y : Gave) → IsClient st → st ≡ g.Open y → ⊥
+not-open st y h e = subst IsClient e h
+
+client-lends : (l : List Call) (s : Session) → IsClient (s .stage) → (z : Option Buffer) → lentBy l s ≡ z → lentBy l s ≡ none
+client-lends l s h none e = e
+client-lends l s h (some y) e = absurd (not-open (s .stage) (gv.Lent y) h (lent-given l s y e))
+
+-- and a call that begins has lent nothing yet
+pub begun-lends : (d : Call) (l : List Call) (s : Session) (input i : List ℕ) (u : Top) → lentBy (d ∷ l) (begunTurn s d input i u .session) ≡ none
+begun-lends kn.Open l s input i u = refl
+begun-lends (kn.Command y) l s input i u = refl
+begun-lends (kn.Lend bytes) l s input i u = lend-gives bytes s input i u
+begun-lends (kn.UndoTo mark v) l s input i u = refl
+begun-lends kn.Quiesce l s input i u = refl
+begun-lends kn.Close l s input i u = refl
 
 -- and then what is lent leaves the session as it is
-lent-post : (base : ℕ → Option Hold) (k : Host) (s : Session) (h : Here) (w : World) (y : Buffer) → s .stage ≡ g.Open (gv.Lent y) → SafeCourse w (courseOf s h) (Post base k) → SafeCourse (lendsTo (some y) w) (courseOf s h) (Post base k)
-lent-post base k s h w y e x = by (s .stage) e x
+lent-post : (base : ℕ → Option Hold) (k : Host) (l : List Call) (s : Session) (h : Here) (w : World) (y : Buffer) → s .stage ≡ g.Open (gv.Lent y) → SafeCourse w (courseOf s h) (Post base k l)
+    → SafeCourse (lendsTo (some y) w) (courseOf s h) (Post base k l) × ((d : ℕ) → Meets (spotOf y) d → Ours (w .host) d)
+lent-post base k l s h w y e x = by (s .stage) e x
   where
-    posted : (st : Stage) → st ≡ g.Open (gv.Lent y) → PostAt base k w (s .info) (s .books) (s .closing) st → PostAt base k (lendsTo (some y) w) (s .info) (s .books) (s .closing) st
+    posted : (st : Stage) → st ≡ g.Open (gv.Lent y) → PostAt base k l w (s .info) (s .books) (s .closing) st → PostAt base k l (lendsTo (some y) w) (s .info) (s .books) (s .closing) st × ((d : ℕ) → Meets (spotOf y) d → Ours (w .host) d)
     posted st d p =
-        subst (λ (z : Stage). PostAt base k w (s .info) (s .books) (s .closing) z → PostAt base k (lendsTo (some y) w) (s .info) (s .books) (s .closing) z) (sym d)
-        (λ q. (given-lent base (s .info) (s .books) w y (q .1) (q .0), q .1)) p
+        subst (λ (z : Stage). PostAt base k l w (s .info) (s .books) (s .closing) z → PostAt base k l (lendsTo (some y) w) (s .info) (s .books) (s .closing) z × ((d : ℕ) → Meets (spotOf y) d → Ours (w .host) d)) (sym d)
+        (λ q. (
+          (given-lent base (s .info) (s .books) w y (q .1) (q .0), q .1, q .2),
+          λ d m. owns-ours (lendsFrom (s .books) 0) (w .host) (q .0 .owns .own) (q .0 .owns .dealt) d (in-books-left (lents (s .books)) _ d (q .1 d m)),
+        )) p
 
-    by : (st : Stage) → st ≡ g.Open (gv.Lent y) → SafeCourse w (courseAt st s h) (Post base k) → SafeCourse (lendsTo (some y) w) (courseAt st s h) (Post base k)
+    by : (st : Stage) → st ≡ g.Open (gv.Lent y) → SafeCourse w (courseAt st s h) (Post base k l)
+        → SafeCourse (lendsTo (some y) w) (courseAt st s h) (Post base k l) × ((d : ℕ) → Meets (spotOf y) d → Ours (w .host) d)
     by st d x =
-        subst (λ (z : Stage). SafeCourse w (courseAt z s h) (Post base k) → SafeCourse (lendsTo (some y) w) (courseAt z s h) (Post base k)) (sym d)
+        subst (λ (z : Stage). SafeCourse w (courseAt z s h) (Post base k l) → SafeCourse (lendsTo (some y) w) (courseAt z s h) (Post base k l) × ((d : ℕ) → Meets (spotOf y) d → Ours (w .host) d)) (sym d)
         (λ p. posted (s .stage) e p) x
 
-begun-taken : (s : Session) (d : Made) (y i : List ℕ) (u : Top) → begunTurn s d y i u .refusal ≡ f.Nothing
+lent-inside : (w : World) (y : Buffer) → ((d : ℕ) → Meets (spotOf y) d → Ours (w .host) d) → Inside w → Inside (lendsTo (some y) w)
+lent-inside w y f (inl z) = inl z
+lent-inside w y f (inr g) = inr (λ d u. by d u)
+  where
+    by : (d : ℕ) → MayUse (lendTo (Meets (spotOf y)) (w .card)) d → Ours (w .host) d
+    by d (inl (inl z)) = g d (inl (inl z))
+    by d (inl (inr (inl z))) = g d (inl (inr (inl z)))
+    by d (inl (inr (inr (inl z)))) = g d (inl (inr (inr (inl z))))
+    by d (inl (inr (inr (inr (inl z))))) = g d (inl (inr (inr (inr z))))
+    by d (inl (inr (inr (inr (inr z))))) = f d z
+    by d (inr z) = g d (inr z)
+
+pub begun-taken : (s : Session) (d : Call) (y i : List ℕ) (u : Top) → begunTurn s d y i u .refusal ≡ f.Nothing
 unfolding begunTurn
 begun-taken s d y i u = refl
 
+-- a question is no end
+shown-asks : (y : Ask) → hasReturned (shown y) ≡ false
+shown-asks (configRead16 o) = refl
+shown-asks (configRead32 o) = refl
+shown-asks (configWrite16 o v) = refl
+shown-asks (configWrite32 o v) = refl
+shown-asks (read b o) = refl
+shown-asks (write b o v) = refl
+shown-asks (attributes o v) = refl
+shown-asks (resource b) = refl
+shown-asks (stall u) = refl
+shown-asks (allocate n) = refl
+shown-asks (mapped k n) = refl
+shown-asks (unmap k) = refl
+shown-asks (free k n) = refl
+shown-asks (fence j) = refl
+
+pub busy-of : (st : Stage) (x : Task) → isRunning st ≡ true → Busy st x → isResting x ≡ false
+busy-of g.Fresh x q b = absurd (false≢true q)
+busy-of (g.Open y) x q b = absurd (false≢true q)
+busy-of g.Ended x q b = absurd (false≢true q)
+busy-of (g.Prepare y) x q b = b
+busy-of (g.Boot y) x q b = b
+busy-of (g.Client y) x q b = b
+busy-of (g.Close y) x q b = b
+
 -- the facts of the start
 module _ (k : Host) (log : k .log ≡ []) (in-none : k .inbox ≡ none) (out-none : k .outbox ≡ none) where
-  abbrev base : ℕ → Option Hold
+  abbrev pub base : ℕ → Option Hold
   base = k .hand
 
   start-owns : Owns base [] k
-  start-owns = record { own = tt; new = tt; apart = tt; others = λ h e. refl }
+  start-owns = record { own = tt; dealt = tt; new = tt; apart = tt; others = λ h e. (refl, ap (standing h) log) }
 
   -- THE ENDS of the two courses
-  back : (n : Info) (y : Failure) (z : Closing) (b : Books) (v : World) → (z ≡ c.Kept → ⊥) → Owns base [] (v .host) → Quiet Empty (v .card) → Post base k v (atRest g.Ended b n y z)
-  back n y c.Clean b v e o s = record { owns = o; unused = inr (empty-uses (v .card) s) }
-  back n y c.Reset b v e o s = record { owns = o; unused = inr (empty-uses (v .card) s) }
-  back n y c.Kept b v e o s = absurd (e refl)
+  module _ (l : List Call) where
+    back : Last Ends l → (n : Info) (y : Failure) (z : Closing) (b : Books) (v : World) → (z ≡ c.Kept → ⊥) → Owns base [] (v .host) → Quiet Empty (v .card) → Post base k l v (atRest g.Ended b n y z)
+    back q n y c.Clean b v e o s = (record { owns = o; unused = inr (empty-uses (v .card) s) }, q)
+    back q n y c.Reset b v e o s = (record { owns = o; unused = inr (empty-uses (v .card) s) }, q)
+    back q n y c.Kept b v e o s = absurd (e refl)
 
-  kept : (n : Info) (y : Failure) (b : Books) (v : World) → Owns base (lendsFrom b 0) (v .host) → Post base k v (atRest g.Ended b n y c.Kept)
-  kept n y b v o = record { owns = o }
+    kept : Last Ends l → (n : Info) (y : Failure) (b : Books) (v : World) → Owns base (lendsFrom b 0) (v .host) → Post base k l v (atRest g.Ended b n y c.Kept)
+    kept q n y b v o = (record { owns = o }, q)
 
-  opened : (n : Info) (b : Books) (v : World) → Idle base n b v → Post base k v (atRest (g.Open gv.Nothing) b n f.Nothing c.Clean)
-  opened n b v o = (o, tt)
+    opened : Last EndsOpen l → (n : Info) (b : Books) (v : World) → Idle base n b v → Post base k l v (atRest (g.Open gv.Nothing) b n f.Nothing c.Clean)
+    opened q n b v o = (o, tt, q)
 
-  idles : (n : Info) (y : Failure) (z : Closing) (a : Gave) (b : Books) (v : World) → Given a b → Idle base n b v → Post base k v (atRest (g.Open a) b n y z)
-  idles n y z a b v d o = (o, d)
+    idles : Last EndsOpen l → (n : Info) (y : Failure) (z : Closing) (a : Gave) (b : Books) (v : World) → Given a b → Idle base n b v → Post base k l v (atRest (g.Open a) b n y z)
+    idles q n y z a b v d o = (o, d, q)
 
-  early : (n : Info) (y : Failure) (b : Books) (v : World) → v .host ≡ k → Post base k v (atRest g.Ended b n y c.Clean)
-  early n y b v e = record { owns = subst (Owns base []) (sym e) start-owns; unused = inl e }
+    early : Last Ends l → (n : Info) (y : Failure) (b : Books) (v : World) → v .host ≡ k → Post base k l v (atRest g.Ended b n y c.Clean)
+    early q n y b v e = (record { owns = subst (Owns base []) (sym e) start-owns; unused = inl e }, q)
+
+  -- WHAT THE INVARIANT SAYS of the task, by the stage
+  abbrev FitAt : Stand → Stage → Type 0
+  FitAt x st = Fit (Last OfClient (x .calls)) (Last IsOpening (x .calls)) (Last Tears (x .calls)) (Opens (x .began) (x .world .host)) st (x .session .closing) (x .session .work .task)
+
+  fit : (x : Stand) → Inv base k x → (st : Stage) → x .session .stage ≡ st → FitAt x st
+  fit x i st e = subst (FitAt x) e (i .suited)
 
   -- WHAT THE INVARIANT SAYS between two calls
-  at-stage : (x : Stand) (st : Stage) → x .session .stage ≡ st → isRunning st ≡ false → Inv base k x → PostAt base k (x .world) (x .session .info) (x .session .books) (x .session .closing) st
-  at-stage x st e r i = subst (PostAt base k (x .world) (x .session .info) (x .session .books) (x .session .closing)) e (by-stage (x .session .stage) (r ∙ refl) (i .safe))
-    where
-      rest-only : (st : Stage) → isRunning st ≡ false → SafeCourse (x .world) (courseAt st (x .session) (i .there)) (Post base k) → Post base k (x .world) (restOf (x .session))
-      rest-only g.Fresh q s = s
-      rest-only (g.Open y) q s = s
-      rest-only g.Ended q s = s
-      rest-only (g.Prepare y) q s = absurd (false≢true (sym q))
-      rest-only (g.Boot y) q s = absurd (false≢true (sym q))
-      rest-only (g.Client y) q s = absurd (false≢true (sym q))
-      rest-only (g.Close y) q s = absurd (false≢true (sym q))
+  abbrev pub PostOf : Stand → Stage → Type 1
+  PostOf x st = PostAt base k (x .calls) (x .world) (x .session .info) (x .session .books) (x .session .closing) st
 
-      by-stage : (st′ : Stage) → isRunning st ≡ false → SafeCourse (x .world) (courseOf (x .session) (i .there)) (Post base k)
-          → PostAt base k (x .world) (x .session .info) (x .session .books) (x .session .closing) (x .session .stage)
-      by-stage st′ q s = rest-only (x .session .stage) (ap isRunning e ∙ q) s
+  rest-only : (x : Stand) (h : Here) (st : Stage) → isRunning st ≡ false → SafeCourse (x .world) (courseAt st (x .session) h) (Post base k (x .calls)) → Post base k (x .calls) (x .world) (restOf (x .session))
+  rest-only x h g.Fresh q s = s
+  rest-only x h (g.Open y) q s = s
+  rest-only x h g.Ended q s = s
+  rest-only x h (g.Prepare y) q s = absurd (false≢true (sym q))
+  rest-only x h (g.Boot y) q s = absurd (false≢true (sym q))
+  rest-only x h (g.Client y) q s = absurd (false≢true (sym q))
+  rest-only x h (g.Close y) q s = absurd (false≢true (sym q))
 
-  -- (b) and (c)
-  returned : (x : Stand) → Balanced base (x .world .host) → Back base k (x .world) → Returned (x .world)
-  returned x bal p = record {
-    once = λ h. let e = bal h in let s : inHand (x .world .host .hand h) ≡ inHand (base h) = ap inHand (p .owns .others h tt) in omega (arith, e, s);
-    unused = ⊎-elim (λ e. inl (ap (λ (y : Host). y .log) e ∙ log)) (λ u. inr u) (p .unused);
-  }
-
-  ended-good : (x : Stand) (z : Closing) → Balanced base (x .world .host) → (z ≡ c.Kept → x .world .host ≡ x .began) → PostEnd base k (x .session .books) (x .world) z
-      → EndedBy base (x .session .books) (x .world) (x .began) z
-  ended-good x c.Clean bal h p = returned x bal p
-  ended-good x c.Reset bal h p = returned x bal p
-  ended-good x c.Kept bal h p = record { named = p .owns; none = h refl }
+  pub at-stage : (x : Stand) (st : Stage) → x .session .stage ≡ st → isRunning st ≡ false → Inv base k x → PostOf x st
+  at-stage x st e r i = subst (PostOf x) e (rest-only x (i .there) (x .session .stage) (ap isRunning e ∙ r) (i .safe))
 
   -- an open session between two calls
-  idle-at : (x : Stand) (st : Stage) → x .session .stage ≡ st → IsOpened st → Inv base k x → Idle base (x .session .info) (x .session .books) (x .world)
+  idle-at : (x : Stand) (st : Stage) → x .session .stage ≡ st → IsOpened st → Inv base k x → Idle base (x .session .info) (x .session .books) (x .world) × Last EndsOpen (x .calls)
   idle-at x g.Fresh e o i = absurd o
-  idle-at x (g.Open y) e o i = at-stage x (g.Open y) e refl i .0
+  idle-at x (g.Open y) e o i = let z = at-stage x (g.Open y) e refl i in (z .0, z .2)
   idle-at x g.Ended e o i = absurd o
   idle-at x (g.Prepare y) e o i = absurd o
   idle-at x (g.Boot y) e o i = absurd o
   idle-at x (g.Client y) e o i = absurd o
   idle-at x (g.Close y) e o i = absurd o
 
+  -- where nothing is asked no call runs
+  no-end : (x : Stand) (st : Stage) → isRunning st ≡ true → PostOf x st → ⊥
+  no-end x g.Fresh q p = false≢true q
+  no-end x (g.Open y) q p = false≢true q
+  no-end x g.Ended q p = false≢true q
+  no-end x (g.Prepare y) q p = p .never
+  no-end x (g.Boot y) q p = p .never
+  no-end x (g.Client y) q p = p .never
+  no-end x (g.Close y) q p = p .never
+
+  pub rests : (x : Stand) → Inv base k x → hasReturned (asksOf (x .session)) ≡ true → (b : Bool) → isRunning (x .session .stage) ≡ b → isRunning (x .session .stage) ≡ false
+  rests x i e false q = q
+  rests x i e true q =
+      absurd (by (courseOf (x .session) (i .there))
+      (session-follows (x .session) (i .there) (ap length (i .box) ∙ i .long q) q (busy-of (x .session .stage) (x .session .work .task) q (i .alive .1))) (i .safe))
+    where
+      by : (z : Course Rest) → Follows (x .session) (i .there) z → SafeCourse (x .world) z (Post base k (x .calls)) → ⊥
+      by (ret l r₁) fol s = no-end x (x .session .stage) q (subst (λ (z : Rest). Post base k (x .calls) (x .world) z) (fol .2) s)
+      by (ask y l d) fol s = false≢true (sym (shown-asks y) ∙ ap hasReturned (sym (fol .0)) ∙ e)
+
+  -- (b) and (c)
+  returned : (x : Stand) → Inv base k x → Back base k (x .world) → AllBack (x .world)
+  returned x i p = record {
+    once = i .tied .order;
+    all = λ h. p .owns .others h tt .1;
+    unused = ⊎-elim (λ e. inl (ap (λ (y : Host). y .log) e ∙ log)) (λ u. inr u) (p .unused);
+  }
+
+  ended-good : (x : Stand) (z : Closing) → Inv base k x → (z ≡ c.Kept → AsBegan (x .world .host) (x .began)) → PostEnd base k (x .session .books) (x .world) z → EndedBy base x z
+  ended-good x c.Clean i h p = returned x i p
+  ended-good x c.Reset i h p = returned x i p
+  ended-good x c.Kept i h p = record { named = p .owns; none = h refl }
+
+  ended-at : (x : Stand) → x .session .stage ≡ g.Ended → Inv base k x → EndedBy base x (x .session .closing)
+  ended-at x e i =
+      ended-good x (x .session .closing) i (subst (λ (st : Stage). HeldAt st (x .session .closing) (AsBegan (x .world .host) (x .began))) e (i .held)) (at-stage x g.Ended e refl i .0)
+
   exact : (x : Stand) → Live (x .session .info) (x .session .books) (x .world) → Exact (x .session .info) (x .session .books) (x .world)
   exact x o = record {
     fourteen = o .fourteen;
     laid = o .laid;
     icm = o .card .now .icm;
-    boxes = o .boxes;
+    single = λ y d e a b. single-page (x .session .info) (x .session .books) (o .fourteen) (o .laid) y d e (o .card .now .icm y d .0 a) (o .card .now .icm y e .0 b);
     one = λ y z d a b. one-page (x .session .books) (o .apart) y z d (o .card .now .icm y d .0 a) (o .card .now .icm z d .0 b);
+    handed = λ j l. o .held j l .hand;
+    stands = λ j l. o .held j l .deal;
+    apart = λ i j l m. apart-at (x .session .books) (o .apart) i j l (subst (λ (z : ℕ). j < z) (sym (o .fourteen)) m);
+    boxes = o .boxes;
   }
 
-  state : (x : Stand) → Inv base k x → GoodAt base (x .session .stage) x
-  state x i = by-stage (x .session .stage) refl
+  exact-open : (x : Stand) (y : Gave) → x .session .stage ≡ g.Open y → Inv base k x → NoQuiesce (x .calls) → Exact (x .session .info) (x .session .books) (x .world)
+  exact-open x y e i q = exact x (idle-live base (x .session .info) (x .session .books) (x .world) (at-stage x (g.Open y) e refl i .0) (i .loud q))
+
+  pub some-taken : (l : List Call) (P : Call → Type 0) → Last P l → Untaken l → ⊥
+  some-taken [] P a b = a
+  some-taken (d ∷ l) P a b = b
+
+  pub ends-client : (d : Call) → OfClient d → Ends d → ⊥
+  ends-client kn.Open a b = a
+  ends-client (kn.Command y) a b = b
+  ends-client (kn.Lend bytes) a b = b
+  ends-client (kn.UndoTo mark r₁) a b = b
+  ends-client kn.Quiesce a b = a
+  ends-client kn.Close a b = a
+
+  -- after and in a client's call
+  exact-client : (x : Stand) → Inv base k x → Last OfClient (x .calls) → NoQuiesce (x .calls) → Exact (x .session .info) (x .session .books) (x .world)
+  exact-client x i c₁ q = by (x .session .stage) refl
     where
-      by-stage : (st : Stage) → x .session .stage ≡ st → GoodAt base st x
-      by-stage g.Fresh e = record {}
-      by-stage (g.Open y) e = λ s. exact x (idle-live base (x .session .info) (x .session .books) (x .world) (at-stage x (g.Open y) e refl i .0) s)
-      by-stage g.Ended e =
-          ended-good x (x .session .closing) (i .balanced) (subst (λ (st : Stage). HeldAt st (x .session .closing) (x .world .host ≡ x .began)) e (i .held)) (at-stage x g.Ended e refl i)
-      by-stage (g.Prepare y) e = record {}
-      by-stage (g.Boot y) e = record {}
-      by-stage (g.Client y) e = λ s. exact x (i .live (subst IsClient (sym e) tt) s)
-      by-stage (g.Close y) e = record {}
+      by : (st : Stage) → x .session .stage ≡ st → Exact (x .session .info) (x .session .books) (x .world)
+      by g.Fresh e = absurd (some-taken (x .calls) OfClient c₁ (at-stage x g.Fresh e refl i .untaken))
+      by (g.Open y) e = exact-open x y e i q
+      by g.Ended e = absurd (last-not OfClient Ends ends-client (x .calls) c₁ (at-stage x g.Ended e refl i .1))
+      by (g.Prepare y) e = absurd (last-not OfClient IsOpening client-opening (x .calls) c₁ (fit x i (g.Prepare y) e .0))
+      by (g.Boot y) e = absurd (last-not OfClient IsOpening client-opening (x .calls) c₁ (fit x i (g.Boot y) e .0))
+      by (g.Client y) e = exact x (i .live (subst IsClient (sym e) tt) q)
+      by (g.Close y) e = absurd (last-not OfClient Tears client-tears (x .calls) c₁ (fit x i (g.Close y) e .0))
+
+  -- what an ended session tells
+  ended-told : (x : Stand) (y : Failure) (z : Closing) → EndedBy base x z → Closed base x (outcomeAt y z g.Ended) × Opened base x (outcomeAt y z g.Ended)
+  ended-told x f.Nothing z p = (p, p)
+  ended-told x (f.By w) z p = (p, p)
+
+  due : (x : Stand) → Inv base k x → Due base (x .calls) (hasReturned (asksOf (x .session))) x
+  due x i = by (x .calls) refl (hasReturned (asksOf (x .session))) refl
+    where
+      over : (st : Stage) → x .session .stage ≡ st → isRunning st ≡ false → Last (λ d. IsClosing d) (x .calls) → Closed base x (outcomeAt (x .session .failure) (x .session .closing) st)
+      over g.Fresh e q c₁ = absurd (some-taken (x .calls) (λ d. IsClosing d) c₁ (at-stage x g.Fresh e refl i .untaken))
+      over (g.Open y) e q c₁ = absurd (last-not (λ d. IsClosing d) EndsOpen closing-open (x .calls) c₁ (at-stage x (g.Open y) e refl i .2))
+      over g.Ended e q c₁ = ended-told x (x .session .failure) (x .session .closing) (ended-at x e i) .0
+      over (g.Prepare y) e q c₁ = absurd (false≢true (sym q))
+      over (g.Boot y) e q c₁ = absurd (false≢true (sym q))
+      over (g.Client y) e q c₁ = absurd (false≢true (sym q))
+      over (g.Close y) e q c₁ = absurd (false≢true (sym q))
+
+      begun : (st : Stage) → x .session .stage ≡ st → isRunning st ≡ false → Last IsOpening (x .calls) → NoQuiesce (x .calls) → Opened base x (outcomeAt (x .session .failure) (x .session .closing) st)
+      begun g.Fresh e q c₁ n = absurd (some-taken (x .calls) IsOpening c₁ (at-stage x g.Fresh e refl i .untaken))
+      begun (g.Open y) e q c₁ n = exact-open x y e i n
+      begun g.Ended e q c₁ n = ended-told x (x .session .failure) (x .session .closing) (ended-at x e i) .1
+      begun (g.Prepare y) e q c₁ n = absurd (false≢true (sym q))
+      begun (g.Boot y) e q c₁ n = absurd (false≢true (sym q))
+      begun (g.Client y) e q c₁ n = absurd (false≢true (sym q))
+      begun (g.Close y) e q c₁ n = absurd (false≢true (sym q))
+
+      by : (l : List Call) → x .calls ≡ l → (t : Bool) → hasReturned (asksOf (x .session)) ≡ t → Due base l t x
+      by [] e t q = record {}
+      by (kn.Open ∷ l) e false q = record {}
+      by (kn.Open ∷ l) e true q = begun (x .session .stage) refl (rests x i q (isRunning (x .session .stage)) refl) (subst (Last IsOpening) (sym e) tt) (subst NoQuiesce (sym e) tt)
+      by (kn.Command y ∷ l) e t q = λ n. exact-client x i (subst (Last OfClient) (sym e) tt) (subst NoQuiesce (sym e) n)
+      by (kn.Lend bytes ∷ l) e t q = λ n. exact-client x i (subst (Last OfClient) (sym e) tt) (subst NoQuiesce (sym e) n)
+      by (kn.UndoTo mark r₁ ∷ l) e t q = λ n. exact-client x i (subst (Last OfClient) (sym e) tt) (subst NoQuiesce (sym e) n)
+      by (kn.Quiesce ∷ l) e t q = record {}
+      by (kn.Close ∷ l) e false q = record {}
+      by (kn.Close ∷ l) e true q = over (x .session .stage) refl (rests x i q (isRunning (x .session .stage)) refl) (subst (Last (λ d. IsClosing d)) (sym e) tt)
+
+  -- where no call runs nothing is asked
+  pub quiet : (x : Stand) → Inv base k x → isRunning (x .session .stage) ≡ false → asksOf (x .session) ≡ q.Finished
+  quiet x i e = rest-asks (x .session .work .reset) (x .session .work .find) (x .session .work .task) (by (x .session .stage) refl e)
+    where
+      by : (st : Stage) → x .session .stage ≡ st → isRunning st ≡ false → IsRest (x .session .work .task)
+      by g.Fresh s q = fit x i g.Fresh s
+      by (g.Open y) s q = fit x i (g.Open y) s
+      by g.Ended s q = fit x i g.Ended s
+      by (g.Prepare y) s q = absurd (false≢true (sym q))
+      by (g.Boot y) s q = absurd (false≢true (sym q))
+      by (g.Client y) s q = absurd (false≢true (sym q))
+      by (g.Close y) s q = absurd (false≢true (sym q))
 
   -- SOMETHING IS ASKED
   module _ (x : Stand) (i : Inv base k x) (n : List ℕ) where
@@ -513,9 +801,9 @@ module _ (k : Host) (log : k .log ≡ []) (in-none : k .inbox ≡ none) (out-non
     idle p e r = nothing-asked (asksOf (x .session)) n p (rest-asks (x .session .work .reset) (x .session .work .find) (x .session .work .task) r) e
 
     runs : (p : Ask) → asked (asksOf (x .session)) n ≡ some p → (st : Stage) → x .session .stage ≡ st → isRunning st ≡ true
-    runs p e g.Fresh s = absurd (idle p e (subst (λ (z : Stage). Fit (Unit {0}) z (x .session .closing) (x .session .work .task)) s (i .suited)))
-    runs p e (g.Open y) s = absurd (idle p e (subst (λ (z : Stage). Fit (Unit {0}) z (x .session .closing) (x .session .work .task)) s (i .suited)))
-    runs p e g.Ended s = absurd (idle p e (subst (λ (z : Stage). Fit (Unit {0}) z (x .session .closing) (x .session .work .task)) s (i .suited)))
+    runs p e g.Fresh s = absurd (idle p e (fit x i g.Fresh s))
+    runs p e (g.Open y) s = absurd (idle p e (fit x i (g.Open y) s))
+    runs p e g.Ended s = absurd (idle p e (fit x i g.Ended s))
     runs p e (g.Prepare y) s = refl
     runs p e (g.Boot y) s = refl
     runs p e (g.Client y) s = refl
@@ -529,11 +817,11 @@ module _ (k : Host) (log : k .log ≡ []) (in-none : k .inbox ≡ none) (out-non
     follows p e l =
         session-follows (x .session) (here n (i .there .outbox) (i .there .undo)) l (runs p e (x .session .stage) refl) (busy p e (isResting (x .session .work .task)) refl)
 
-    safe-here : n ≡ x .inbox → SafeCourse (x .world) (courseOf (x .session) (here n (i .there .outbox) (i .there .undo))) (Post base k)
-    safe-here e = subst (λ (z : List ℕ). SafeCourse (x .world) (courseOf (x .session) (here z (i .there .outbox) (i .there .undo))) (Post base k)) (i .box ∙ sym e) (i .safe)
+    safe-here : n ≡ x .inbox → SafeCourse (x .world) (courseOf (x .session) (here n (i .there .outbox) (i .there .undo))) (Post base k (x .calls))
+    safe-here e = subst (λ (z : List ℕ). SafeCourse (x .world) (courseOf (x .session) (here z (i .there .outbox) (i .there .undo))) (Post base k (x .calls))) (i .box ∙ sym e) (i .safe)
 
     -- the question is the course's, which is allowed
-    asked-by : (h : Here) (z : Course Rest) → h .inbox ≡ n → Follows (x .session) h z → SafeCourse (x .world) z (Post base k) → (p : Ask) → asked (asksOf (x .session)) n ≡ some p → Allowed n (x .world) p
+    asked-by : (h : Here) (z : Course Rest) → h .inbox ≡ n → Follows (x .session) h z → SafeCourse (x .world) z (Post base k (x .calls)) → (p : Ask) → asked (asksOf (x .session)) n ≡ some p → Allowed n (x .world) p
     asked-by h (ret l r₁) b fol s p e = absurd (nothing-asked (asksOf (x .session)) n p (fol .0) e)
     asked-by h (ask q l d) b fol s p e =
         let al : Allowed n (x .world) q = subst (λ (z : List ℕ). Allowed z (x .world) q) (ap (λ (z : Left). z .inbox) (fol .1) ∙ b) (s .0) in
@@ -545,60 +833,63 @@ module _ (k : Host) (log : k .log ≡ []) (in-none : k .inbox ≡ none) (out-non
       (follows x i (x .inbox) p e (i .long (runs x i (x .inbox) p e (x .session .stage) refl))) (safe-here x i (x .inbox) refl) p e
 
   good : (x : Stand) → Inv base k x → Good base x
-  good x i = record { question = question x i; state = state x i }
+  good x i = record { question = question x i; inside = i .inside; order = i .tied .order; due = due x i }
+
+  -- ONE EVENT leaves the invariant, and gives back only what it may
+  abbrev pub Onto : Stand → Stand → Type 1
+  Onto x y = Inv base k y × GivesBack (x .world) (y .world)
 
   -- A REFUSED CALL leaves everything; a pending command may end
-  lent-none : (st : Stage) → isLending st ≡ true → givenAt st ≡ none
-  lent-none g.Fresh e = refl
-  lent-none (g.Open y) e = absurd (false≢true e)
-  lent-none g.Ended e = refl
-  lent-none (g.Prepare y) e = refl
-  lent-none (g.Boot y) e = refl
-  lent-none (g.Client y) e = refl
-  lent-none (g.Close y) e = refl
-
-  -- a call that stays in its stage lends nothing
-  same-lends : (st : Stage) → lentNow st st ≡ none
-  same-lends st = by (isLending st) refl
-    where
-      by : (b : Bool) → isLending st ≡ b → pick b (givenAt st) none ≡ none
-      by true e = lent-none st e
-      by false e = refl
-
-  refused : (x : Stand) (e : Event) (y : Stand) (z : Refusal) → turn (x .session) e .session ≡ x .session → turn (x .session) e .refusal ≡ f.By z → Inv base k x → Step x e y → Inv base k y
-  refused x e y z s r i st =
-      record {
-        there = i .there;
-        box = i .box ∙ sym inbox;
-        safe =
-            subst (λ (h : Session). SafeCourse (y .world) (courseOf h (i .there)) (Post base k)) (sym session)
-            (subst (λ (v : World). SafeCourse v (courseOf (x .session) (i .there)) (Post base k)) (sym settled)
-            (course-settled (Post base k) (courseOf (x .session) (i .there)) (x .world) (y .world .card) (rests .0)
-            (λ h p. post-settled base k (x .world) (y .world .card) (h .info) (h .books) (h .closing) (h .stage) (rests .0) p) (i .safe)));
-        balanced = subst (Balanced base) (sym (rests .1)) (i .balanced);
-        suited = subst (Suited (Unit {0})) (sym session) (i .suited);
-        held =
-            subst (λ (h : Session). HeldAt (h .stage) (h .closing) (y .world .host ≡ y .began)) (sym session)
-            (held-map (x .session .stage) (x .session .closing) (x .world .host ≡ x .began) (y .world .host ≡ y .began)
-            (began-kept (isClosing (x .session .stage)) (x .began) (y .began) (x .world .host) (y .world .host) (st .began) (rests .1)) (i .held));
-        long = λ q. ap length inbox ∙ i .long (ap (λ (h : Session). isRunning (h .stage)) (sym session) ∙ q);
-        calm = subst (λ (h : Session). IsClient (h .stage) → CalmCourse (courseOf h (i .there))) (sym session) (i .calm);
-        live =
-            subst (λ (h : Session). IsClient (h .stage) → h .books .wire .silent ≡ false → Live (h .info) (h .books) (y .world)) (sym session)
-            (λ a b. subst (Live (x .session .info) (x .session .books)) (sym settled) (live-settled (x .session .info) (x .session .books) (x .world) (y .world .card) (rests .0) (i .live a b)));
-      }
+  refused : (x : Stand) (e : Event) (y : Stand) (z : Refusal) → turn (x .session) e .session ≡ x .session → turn (x .session) e .refusal ≡ f.By z → Inv base k x → Step x e y → Onto x y
+  refused x e y z s r i st = (
+    record {
+      there = i .there;
+      box = i .box ∙ sym inbox;
+      safe =
+          subst (λ (h : Session). SafeCourse (y .world) (courseOf h (i .there)) (Post base k (y .calls))) (sym session)
+          (subst (λ (l : List Call). SafeCourse (y .world) (courseOf (x .session) (i .there)) (Post base k l)) (sym calls)
+          (subst (λ (v : World). SafeCourse v (courseOf (x .session) (i .there)) (Post base k (x .calls))) (sym settled)
+          (course-settled (Post base k (x .calls)) (courseOf (x .session) (i .there)) (x .world) (y .world .card) (rests₁ .0)
+          (λ h p. post-settled base k (x .calls) (x .world) (y .world .card) (h .info) (h .books) (h .closing) (h .stage) (rests₁ .0) p) (i .safe))));
+      tied = subst Tied (sym (rests₁ .1)) (i .tied);
+      inside = settled-inside (x .world) (y .world) (rests₁ .1) (rests₁ .0) (i .inside);
+      suited =
+          subst (λ (l : List Call). Suited (Last OfClient l) (Last IsOpening l) (Last Tears l) (Opens (y .began) (y .world .host)) (y .session)) (sym calls)
+          (subst (λ (b : Option Host). Suited (Last OfClient (x .calls)) (Last IsOpening (x .calls)) (Last Tears (x .calls)) (Opens b (y .world .host)) (y .session)) (sym began)
+          (subst (λ (h : Host). Suited (Last OfClient (x .calls)) (Last IsOpening (x .calls)) (Last Tears (x .calls)) (Opens (x .began) h) (y .session)) (sym (rests₁ .1))
+          (subst (Suited (Last OfClient (x .calls)) (Last IsOpening (x .calls)) (Last Tears (x .calls)) (Opens (x .began) (x .world .host))) (sym session) (i .suited))));
+      held =
+          subst (λ (h : Session). HeldAt (h .stage) (h .closing) (AsBegan (y .world .host) (y .began))) (sym session)
+          (held-map (x .session .stage) (x .session .closing) (AsBegan (x .world .host) (x .began)) (AsBegan (y .world .host) (y .began)) (λ h l q. rests₁ .1 ∙ h l (sym began ∙ q)) (i .held));
+      alive = subst Alive (sym session) (i .alive);
+      loud = λ q. ap (λ (h : Session). h .books .wire .silent) session ∙ i .loud (subst NoQuiesce calls q);
+      long = λ q. ap length inbox ∙ i .long (ap (λ (h : Session). isRunning (h .stage)) (sym session) ∙ q);
+      calm = subst (λ (h : Session). IsClient (h .stage) → CalmCourse (courseOf h (i .there))) (sym session) (i .calm);
+      live =
+          subst (λ (h : Session). IsClient (h .stage) → NoQuiesce (y .calls) → Live (h .info) (h .books) (y .world)) (sym session)
+          (λ a b. subst (Live (x .session .info) (x .session .books)) (sym settled)
+          (live-settled (x .session .info) (x .session .books) (x .world) (y .world .card) (rests₁ .0) (i .live a (subst NoQuiesce calls b))));
+    },
+    same-gives (x .world) (y .world) (rests₁ .1),
+  )
     where
       session : y .session ≡ x .session
       session = st .session ∙ s
 
-      world : y .world ≡ st .between
-      world = st .world ∙ ap (λ (b : Option Buffer). lendsTo b (st .between)) (ap (λ (h : Session). lentNow (x .session .stage) (h .stage)) session ∙ same-lends (x .session .stage))
+      calls : y .calls ≡ x .calls
+      calls = st .calls ∙ ap (λ (h : Failure). callsBy h (e .call) (x .calls)) r
 
-      rests : Rests (x .world) (y .world)
-      rests = subst (Rests (x .world)) (sym world) (subst (λ (h : Failure). Happens h (e .call) (x .session) (e .inbox) (x .world) (st .between)) r (st .happens))
+      began : y .began ≡ x .began
+      began = st .began ∙ ap (λ (h : Failure). beganNow h (e .call) (x .calls) (asked (asksOf (x .session)) (e .inbox)) (x .world .host) (x .began)) r
+
+      world : y .world ≡ st .between
+      world = st .world ∙ ap (λ (h : Failure). lendsTo (lentNow h (y .calls) (y .session)) (st .between)) r
+
+      rests₁ : Rests (x .world) (y .world)
+      rests₁ = subst (Rests (x .world)) (sym world) (subst (λ (h : Failure). Happens h (e .call) (x .session) (e .inbox) (x .world) (st .between)) r (st .happens))
 
       settled : y .world ≡ at (x .world) (y .world .card)
-      settled = rests-at (x .world) (y .world) (rests .1)
+      settled = rests-at (x .world) (y .world) (rests₁ .1)
 
       inbox : y .inbox ≡ x .inbox
       inbox = st .left ∙ ap (λ (h : Failure). boxLeft h (inboxAfter (x .session) e) (x .inbox)) r
@@ -630,26 +921,26 @@ module _ (k : Host) (log : k .log ≡ []) (in-none : k .inbox ≡ none) (out-non
     idle-now : isOpen (x .session .stage) ≡ true → Idle base (x .session .info) (x .session .books) v
     idle-now e =
         subst (Idle base (x .session .info) (x .session .books)) (sym (rests-at (x .world) v (rests .1)))
-        (idle-settled base (x .session .info) (x .session .books) (x .world) (v .card) (rests .0) (idle-at x (x .session .stage) refl (open-stage (x .session .stage) e) i))
+        (idle-settled base (x .session .info) (x .session .books) (x .world) (v .card) (rests .0) (idle-at x (x .session .stage) refl (open-stage (x .session .stage) e) i .0))
 
     -- the whole course of each call is safe
-    call-safe : (d : Made) (y : List ℕ) → isTime (x .session .stage) d ≡ true → barred (x .session) d ≡ f.Nothing → SizedMade d → SafeCourse v (courseFor d (x .session) y (here n o u)) (Post base k)
+    call-safe : (d : Call) (y : List ℕ) → isTime (x .session .stage) d ≡ true → barred (x .session) d ≡ f.Nothing → SizedCall d → SafeCourse v (courseFor d (x .session) y (here n o u)) (Post base k (d ∷ x .calls))
     call-safe kn.Open y t b s =
         let host : v .host ≡ k = rests .1 ∙ at-stage x g.Fresh (fresh-stage (x .session .stage) t) refl i .host in
-        safe-opening base (Post base k) k back kept opened early (here n o u) v q host (subst (Owns base []) (sym host) start-owns)
+        safe-opening base (Post base k (kn.Open ∷ x .calls)) k (back (kn.Open ∷ x .calls) tt) (kept (kn.Open ∷ x .calls) tt) (opened (kn.Open ∷ x .calls) tt) (early (kn.Open ∷ x .calls) tt) (here n o u) v q host (subst (Owns base []) (sym host) start-owns)
         (ap (λ (h : Host). h .inbox) host ∙ in-none) (ap (λ (h : Host). h .outbox) host ∙ out-none)
     call-safe (kn.Command z) y t b s =
-        safe-commanding base (x .session .info) (x .session .failure) (x .session .closing) (Post base k) (idles (x .session .info) (x .session .failure) (x .session .closing)) z y (x .session .books) (here n o u) v
+        safe-commanding base (x .session .info) (x .session .failure) (x .session .closing) (Post base k (kn.Command z ∷ x .calls)) (idles (kn.Command z ∷ x .calls) tt (x .session .info) (x .session .failure) (x .session .closing)) z y (x .session .books) (here n o u) v
         (by-opcode (isReserved (z .op)) b) s q (idle-now t)
     call-safe (kn.Lend bytes) y t b s =
-        safe-lending base (x .session .info) (x .session .failure) (x .session .closing) (Post base k) (idles (x .session .info) (x .session .failure) (x .session .closing)) bytes (x .session .books) (here n o u) v
+        safe-lending base (x .session .info) (x .session .failure) (x .session .closing) (Post base k (kn.Lend bytes ∷ x .calls)) (idles (kn.Lend bytes ∷ x .calls) tt (x .session .info) (x .session .failure) (x .session .closing)) bytes (x .session .books) (here n o u) v
         (by-room (x .session .books .lists .lends) bytes b) q (idle-now t)
     call-safe (kn.UndoTo mark r₁) y t b s =
-        safe-undoing-to base (x .session .info) (x .session .failure) (x .session .closing) (Post base k) (idles (x .session .info) (x .session .failure) (x .session .closing)) mark (x .session .books) (here n o u) v q (idle-now t)
+        safe-undoing-to base (x .session .info) (x .session .failure) (x .session .closing) (Post base k (kn.UndoTo mark r₁ ∷ x .calls)) (idles (kn.UndoTo mark r₁ ∷ x .calls) tt (x .session .info) (x .session .failure) (x .session .closing)) mark (x .session .books) (here n o u) v q (idle-now t)
     call-safe kn.Quiesce y t b s =
         let w = idle-now t in
-        safe-quiescing (x .session .info) (x .session .failure) (Post base k) (v .host) (x .session .books) (w .boxes) (w .entries)
-        (λ z a p e m. (quieted z a p e m w, tt)) (here n o u) v q refl (w .bound)
+        safe-quiescing (x .session .info) (x .session .failure) (Post base k (kn.Quiesce ∷ x .calls)) (v .host) (x .session .books) (w .boxes) (w .entries) (boxes-mailed base (x .session .books) (v .host) (w .boxes) (w .owns))
+        (λ z a p e m. (quieted z a p e m w, tt, tt)) (here n o u) v q refl (w .bound)
       where
         quieted : (z : Wire) (a : World) → z .silent ≡ true → a .host ≡ v .host → Within (Lies (x .session .books)) (Mine (x .session .books)) (a .card) → Idle base (x .session .info) (x .session .books) v
             → Idle base (x .session .info) (wired (x .session .books) (broken z)) a
@@ -663,8 +954,8 @@ module _ (k : Host) (log : k .log ≡ []) (in-none : k .inbox ≡ none) (out-non
         }
     call-safe kn.Close y t b s =
         let w = idle-now t in
-        safe-stopping (x .session .info) f.Nothing (Post base k) base (v .host)
-        (λ z d a e s r. back (x .session .info) f.Nothing z (emptied d) a e s r) (λ d a s r. kept (x .session .info) f.Nothing d a s)
+        safe-stopping (x .session .info) f.Nothing (Post base k (kn.Close ∷ x .calls)) base (v .host) (boxes-mailed base (x .session .books) (v .host) (w .boxes) (w .owns))
+        (λ z d a e s r. back (kn.Close ∷ x .calls) tt (x .session .info) f.Nothing z (emptied d) a e s r) (λ d a s r. kept (kn.Close ∷ x .calls) tt (x .session .info) f.Nothing d a s)
         (x .session .books) (here n o u) v (w .entries .addressed) q refl (w .owns) (λ e. loud w e (x .session .books .wire .silent) refl)
         (λ e. let o₁ = w .exact (loud w e (x .session .books .wire .silent) refl) in (
           within-more (Uses (x .session .books)) (OwedBy (x .session .books)) (Calm (x .session .books)) (λ p. Unit {0}) (v .card) (λ h z. uses-owed (x .session .books) h (w .entries) (o₁ .started) z) (λ p z. tt) (o₁ .card),
@@ -676,7 +967,7 @@ module _ (k : Host) (log : k .log ≡ []) (in-none : k .inbox ≡ none) (out-non
         loud w e false s = s
 
     -- and a client's changes nothing of the map
-    call-calm : (d : Made) (y : List ℕ) → OfClient d → barred (x .session) d ≡ f.Nothing → CalmCourse (courseFor d (x .session) y (here n o u))
+    call-calm : (d : Call) (y : List ℕ) → OfClient d → barred (x .session) d ≡ f.Nothing → CalmCourse (courseFor d (x .session) y (here n o u))
     call-calm kn.Open y c₁ b = absurd c₁
     call-calm (kn.Command z) y c₁ b = commanding-calm (x .session .info) (x .session .failure) (x .session .closing) z y (x .session .books) (here n o u) (by-opcode (isReserved (z .op)) b)
     call-calm (kn.Lend bytes) y c₁ b = lending-calm (x .session .info) (x .session .failure) (x .session .closing) bytes (x .session .books) (here n o u)
@@ -684,17 +975,8 @@ module _ (k : Host) (log : k .log ≡ []) (in-none : k .inbox ≡ none) (out-non
     call-calm kn.Quiesce y c₁ b = absurd c₁
     call-calm kn.Close y c₁ b = absurd c₁
 
-  -- which calls are a client's: those that begin a client's stage
-  of-client : (d : Made) (s : Session) (y i : List ℕ) (u : Top) → IsClient (begunTurn s d y i u .session .stage) → OfClient d
-  of-client kn.Open s y i u h = absurd (never (begunTurn s kn.Open y i u .session) (begun-needs ⊥ (Unit {0}) kn.Open s y i u tt tt) h)
-  of-client (kn.Command z) s y i u h = tt
-  of-client (kn.Lend bytes) s y i u h = tt
-  of-client (kn.UndoTo mark r₁) s y i u h = tt
-  of-client kn.Quiesce s y i u h = absurd (never (begunTurn s kn.Quiesce y i u .session) (begun-needs ⊥ (Unit {0}) kn.Quiesce s y i u tt tt) h)
-  of-client kn.Close s y i u h = absurd (never (begunTurn s kn.Close y i u .session) (begun-needs ⊥ (Unit {0}) kn.Close s y i u tt tt) h)
-
   -- where it is the time for a call of a client, the session is open
-  client-time : (d : Made) (st : Stage) → OfClient d → isTime st d ≡ true → isOpen st ≡ true
+  client-time : (d : Call) (st : Stage) → OfClient d → isTime st d ≡ true → isOpen st ≡ true
   client-time kn.Open st c₁ e = absurd c₁
   client-time (kn.Command z) st c₁ e = e
   client-time (kn.Lend bytes) st c₁ e = e
@@ -702,47 +984,57 @@ module _ (k : Host) (log : k .log ≡ []) (in-none : k .inbox ≡ none) (out-non
   client-time kn.Quiesce st c₁ e = absurd c₁
   client-time kn.Close st c₁ e = absurd c₁
 
-  -- a call begins in a fresh or in an open session: nothing is lent, and the closing begins now
-  not-lending : (d : Made) (st : Stage) → isTime st d ≡ true → isLending st ≡ false
-  not-lending kn.Open st e = ap isLending (fresh-stage st e)
-  not-lending (kn.Command z) st e = open-lends st e
-  not-lending (kn.Lend bytes) st e = open-lends st e
-  not-lending (kn.UndoTo mark r₁) st e = open-lends st e
-  not-lending kn.Quiesce st e = open-lends st e
-  not-lending kn.Close st e = open-lends st e
-
-  not-closing : (d : Made) (st : Stage) → isTime st d ≡ true → isClosing st ≡ false
-  not-closing kn.Open st e = ap isClosing (fresh-stage st e)
-  not-closing (kn.Command z) st e = open-closes st e
-  not-closing (kn.Lend bytes) st e = open-closes st e
-  not-closing (kn.UndoTo mark r₁) st e = open-closes st e
-  not-closing kn.Quiesce st e = open-closes st e
-  not-closing kn.Close st e = open-closes st e
+  -- a call begins in a fresh or in an open session: no closing has begun
+  opening-untaken : (x : Stand) (d : Call) → Inv base k x → isTime (x .session .stage) d ≡ true → IsOpening d → Untaken (x .calls)
+  opening-untaken x kn.Open i e q = at-stage x g.Fresh (fresh-stage (x .session .stage) e) refl i .untaken
+  opening-untaken x (kn.Command z) i e q = absurd q
+  opening-untaken x (kn.Lend bytes) i e q = absurd q
+  opening-untaken x (kn.UndoTo mark r₁) i e q = absurd q
+  opening-untaken x kn.Quiesce i e q = absurd q
+  opening-untaken x kn.Close i e q = absurd q
 
   -- AN ACCEPTED CALL
-  module _ (x y : Stand) (d : Made) (input n o : List ℕ) (u : Top) (i : Inv base k x) where
-    made-by : callable (x .session) d ≡ true → lentFor d input n o u ≡ true → barred (x .session) d ≡ f.Nothing → Step x (event (callMake d input) n o u) y → Inv base k y
-    made-by a b free st =
-        record {
-          there = begunAt d (x .session) input (here n o u);
-          box = sym (st .left ∙ ap (λ (h : Failure). boxLeft h (callIn (x .session) d input n o u) (x .inbox)) (ap (λ (h : Turn). h .refusal) t ∙ taken) ∙ boxed);
-          safe =
-              subst (λ (h : Session). SafeCourse (y .world) (courseOf h (begunAt d (x .session) input (here n o u))) (Post base k)) (sym session)
-              (subst (λ (h : Course Rest). SafeCourse (y .world) h (Post base k)) (sym (begins d (x .session) input (here n o u) long))
-              (call-safe x n o u i (y .world) rests (fair n o u (st .lendable) lent) d input time free (st .sized)));
-          balanced = subst (Balanced base) (sym (rests .1)) (i .balanced);
-          suited = subst (Suited (Unit {0})) (sym session) (both .0);
-          held = subst (λ (h : Session). HeldAt (h .stage) (h .closing) (y .world .host ≡ y .began)) (sym session) (both .1);
-          long = λ q. ap length (st .left ∙ ap (λ (h : Failure). boxLeft h (callIn (x .session) d input n o u) (x .inbox)) (ap (λ (h : Turn). h .refusal) t ∙ taken) ∙ boxed) ∙ call-length (x .session) d input n u long;
-          calm = subst (λ (h : Session). IsClient (h .stage) → CalmCourse (courseOf h (begunAt d (x .session) input (here n o u)))) (sym session)
-              (λ q. subst CalmCourse (sym (begins d (x .session) input (here n o u) long)) (call-calm x n o u i (y .world) rests (fair n o u (st .lendable) lent) d input (of-client d (x .session) input n u q) free));
-          live = subst (λ (h : Session). IsClient (h .stage) → h .books .wire .silent ≡ false → Live (h .info) (h .books) (y .world)) (sym session)
-              (λ q s.
-              let c₁ = of-client d (x .session) input n u q in
-              let e = begun-same d (x .session) input n u c₁ q in
-              live-same (x .session) (begunTurn (x .session) d input n u .session) (y .world) e
-              (idle-live base (x .session .info) (x .session .books) (y .world) (idle-now x n o u i (y .world) rests (fair n o u (st .lendable) lent) (client-time d (x .session .stage) c₁ time)) (sym (e .silent) ∙ s)));
-        }
+  module _ (x y : Stand) (d : Call) (input n o : List ℕ) (u : Top) (i : Inv base k x) where
+    abbrev pub first : Session
+    first = begunTurn (x .session) d input n u .session
+
+    abbrev pub there₀ : Here
+    there₀ = begunAt d (x .session) input (here n o u)
+
+    pub made-by : callable (x .session) d ≡ true → lentFor d input n o u ≡ true → barred (x .session) d ≡ f.Nothing → Step x (event (callMake d input) n o u) y → (j : Inv base k y) × (j .there ≡ there₀) × GivesBack (x .world) (y .world)
+    made-by a b bar st = (
+      record {
+        there = there₀;
+        box = sym (st .left ∙ ap (λ (h : Failure). boxLeft h (callIn (x .session) d input n o u) (x .inbox)) (ap (λ (h : Turn). h .refusal) t ∙ taken) ∙ boxed);
+        safe =
+            subst (λ (h : Session). SafeCourse (y .world) (courseOf h there₀) (Post base k (y .calls))) (sym session)
+            (subst (λ (l : List Call). SafeCourse (y .world) (courseOf first there₀) (Post base k l)) (sym calls)
+            (subst (λ (h : Course Rest). SafeCourse (y .world) h (Post base k (d ∷ x .calls))) (sym (begins d (x .session) input (here n o u) long))
+            (call-safe x n o u i (y .world) rests₁ ready d input time bar (st .sized))));
+        tied = subst Tied (sym (rests₁ .1)) (i .tied);
+        inside = settled-inside (x .world) (y .world) (rests₁ .1) (rests₁ .0) (i .inside);
+        suited =
+            subst (λ (l : List Call). Suited (Last OfClient l) (Last IsOpening l) (Last Tears l) (Opens (y .began) (y .world .host)) (y .session)) (sym calls)
+            (subst (Suited (OfClient d) (IsOpening d) (Tears d) (Opens (y .began) (y .world .host))) (sym session) (both .0));
+        held = subst (λ (h : Session). HeldAt (h .stage) (h .closing) (AsBegan (y .world .host) (y .began))) (sym session) (both .1);
+        alive = subst Alive (sym session) (call-alive n long (x .session) (i .alive .0) d input u);
+        loud = λ q.
+            ap (λ (h : Session). h .books .wire .silent) session
+            ∙ begun-fact (NoQuiesce (d ∷ x .calls)) (x .session) (counted (x .session) (i .alive .0), λ z. i .loud (quieter d (x .calls) (opening-untaken x d i time) z)) d input n u (loudly d (x .calls)) .1 (subst NoQuiesce calls q);
+        long = λ q. ap length (st .left ∙ ap (λ (h : Failure). boxLeft h (callIn (x .session) d input n o u) (x .inbox)) (ap (λ (h : Turn). h .refusal) t ∙ taken) ∙ boxed) ∙ call-length (x .session) d input n u long;
+        calm = subst (λ (h : Session). IsClient (h .stage) → CalmCourse (courseOf h there₀)) (sym session)
+            (λ q. subst CalmCourse (sym (begins d (x .session) input (here n o u) long)) (call-calm x n o u i (y .world) rests₁ ready d input (of-client q) bar));
+        live = subst (λ (h : Session). IsClient (h .stage) → NoQuiesce (y .calls) → Live (h .info) (h .books) (y .world)) (sym session)
+            (λ q s.
+            let c₁ = of-client q in
+            let e = begun-same d (x .session) input n u c₁ q in
+            live-same (x .session) first (y .world) e
+            (idle-live base (x .session .info) (x .session .books) (y .world) (idle-now x n o u i (y .world) rests₁ ready (client-time d (x .session .stage) c₁ time))
+            (i .loud (quieter d (x .calls) (opening-untaken x d i time) (subst NoQuiesce calls s)))));
+      },
+      refl,
+      same-gives (x .world) (y .world) (rests₁ .1),
+    )
       where
         time : isTime (x .session .stage) d ≡ true
         time = and-right (isSession (x .session)) (isTime (x .session .stage) d) a
@@ -753,61 +1045,77 @@ module _ (k : Host) (log : k .log ≡ []) (in-none : k .inbox ≡ none) (out-non
         long : length n ≡ 4096
         long = lent-length n o u lent
 
+        ready : Fair (here n o u)
+        ready = fair n o u (st .lendable) lent
+
         t : callOf (x .session) d input n o u ≡ begunTurn (x .session) d input n u
-        t = in-good (callable (x .session) d) (lentFor d input n o u) _ _ _ a b ∙ ap (λ (h : Failure). unless h (begunTurn (x .session) d input n u) (λ w. refusedOf (x .session) w (u .count))) free
+        t = in-good (callable (x .session) d) (lentFor d input n o u) _ _ _ a b ∙ ap (λ (h : Failure). unless h (begunTurn (x .session) d input n u) (λ w. refusedOf (x .session) w (u .count))) bar
 
         boxed : callIn (x .session) d input n o u ≡ begunInbox (x .session) d input n u
-        boxed = in-good (callable (x .session) d) (lentFor d input n o u) _ _ _ a b ∙ ap (λ (h : Failure). unless h (begunInbox (x .session) d input n u) (λ w. n)) free
+        boxed = in-good (callable (x .session) d) (lentFor d input n o u) _ _ _ a b ∙ ap (λ (h : Failure). unless h (begunInbox (x .session) d input n u) (λ w. n)) bar
 
         taken : begunTurn (x .session) d input n u .refusal ≡ f.Nothing
         taken = begun-taken (x .session) d input n u
 
-        session : y .session ≡ begunTurn (x .session) d input n u .session
+        not-refused : callOf (x .session) d input n o u .refusal ≡ f.Nothing
+        not-refused = ap (λ (h : Turn). h .refusal) t ∙ taken
+
+        session : y .session ≡ first
         session = st .session ∙ ap (λ (h : Turn). h .session) t
 
+        calls : y .calls ≡ d ∷ x .calls
+        calls = st .calls ∙ ap (λ (h : Failure). callsBy h (callMake d input) (x .calls)) not-refused
+
         world : y .world ≡ st .between
-        world = st .world ∙ ap (λ (h : Bool). lendsTo (pick h (givenAt (y .session .stage)) none) (st .between)) (not-lending d (x .session .stage) time)
+        world =
+            st .world
+            ∙ ap (λ (h : Option Buffer). lendsTo h (st .between))
+            (ap (λ (h : Failure). lentNow h (y .calls) (y .session)) not-refused ∙ ap (λ (l : List Call). lentBy l (y .session)) calls ∙ ap (lentBy (d ∷ x .calls)) session ∙ begun-lends d (x .calls) (x .session) input n u)
 
-        rests : Rests (x .world) (y .world)
-        rests = subst (Rests (x .world)) (sym world) (subst (λ (h : Failure). Happens h (callMake d input) (x .session) n (x .world) (st .between)) (ap (λ (h : Turn). h .refusal) t ∙ taken) (st .happens))
+        rests₁ : Rests (x .world) (y .world)
+        rests₁ = subst (Rests (x .world)) (sym world) (subst (λ (h : Failure). Happens h (callMake d input) (x .session) n (x .world) (st .between)) not-refused (st .happens))
 
-        both : Both (Unit {0}) (y .world .host ≡ y .began) (begunTurn (x .session) d input n u .session)
-        both = begun-both (Unit {0}) (y .world .host ≡ y .began) d (x .session) input n u tt (sym (st .began ∙ ap (λ (h : Bool). pick h (x .began) (y .world .host)) (not-closing d (x .session .stage) time)))
+        began : y .began ≡ pick (isClose d) (some (x .world .host)) none
+        began = st .began ∙ ap (λ (h : Failure). beganNow h (callMake d input) (x .calls) (asked (asksOf (x .session)) n) (x .world .host) (x .began)) not-refused
+
+        both : Both (OfClient d) (IsOpening d) (Tears d) (Opens (y .began) (y .world .host)) (AsBegan (y .world .host) (y .began)) first
+        both =
+            begun-both (OfClient d) (IsOpening d) (Tears d) (Opens (y .began) (y .world .host)) (opens-again (y .began) (y .world .host)) (AsBegan (y .world .host) (y .began)) d (x .session) input n u
+            (needs d (x .world .host) (y .world .host) (y .began) began) (begun-at d (x .world .host) (y .world .host) (y .began) began (rests₁ .1))
+
+        -- it is a client's call where a client's stage begins
+        of-client : IsClient (first .stage) → OfClient d
+        of-client q = client-fits (OfClient d) (IsOpening d) (Tears d) (Opens (y .began) (y .world .host)) (first .stage) (first .closing) (first .work .task) q (both .0)
 
   -- AN ACCEPTED ANSWER
   module _ (x y : Stand) (n o : List ℕ) (u : Top) (i : Inv base k x) (a : Answer) (res : List ℕ) where
-    abbrev h₁ : Here
+    abbrev pub h₁ : Here
     h₁ = here n (i .there .outbox) (i .there .undo)
 
-    abbrev m : Lent
+    abbrev pub m : Lent
     m = record { outbox = o; undo = u }
 
-    abbrev next : Session
+    abbrev pub next : Session
     next = stepOf (x .session) a res n o u .session
 
-    abbrev there₁ : Here
+    abbrev pub there₁ : Here
     there₁ = hereAfter (x .session) a res h₁ m
 
-    -- what is left of the course is safe, and the deals are balanced
-    abbrev Onward : World → Type 1
-    Onward v = SafeCourse v (courseOf next there₁) (Post base k) × Balanced base (v .host)
-
-    by-course : (z : Course Rest) → Follows (x .session) h₁ z → SafeCourse (x .world) z (Post base k) → Lendable m → (v : World) (p : Ask) (r : Reply p) → asked (asksOf (x .session)) n ≡ some p
-        → replyOf p a res ≡ some r → WorldStep (x .world) p r v → Onward v
+    -- what is left of the course is safe
+    by-course : (z : Course Rest) → Follows (x .session) h₁ z → SafeCourse (x .world) z (Post base k (x .calls)) → Lendable m → (v : World) (p : Ask) (r : Reply p) → asked (asksOf (x .session)) n ≡ some p
+        → replyOf p a res ≡ some r → WorldStep (x .world) p r v → SafeCourse v (courseOf next there₁) (Post base k (x .calls))
     by-course (ret l r₁) fol s ok v p r e₁ e₂ st = absurd (nothing-asked (asksOf (x .session)) n p (fol .0) e₁)
     by-course (ask q l d) fol s ok v p r e₁ e₂ st =
         let al : Allowed n (x .world) q = subst (λ (z : Left). Allowed (z .inbox) (x .world) q) (fol .1) (s .0) in
         let same : q ≡ p = Option·some-injective q p (sym (ap (λ z. asked z n) (fol .0) ∙ asked-shown q n (x .world) al) ∙ e₁) in
-        subst (λ (z : Ask). (r : Reply z) → replyOf z a res ≡ some r → WorldStep (x .world) z r v → Onward v) same
-        (λ r e st. (
-          subst (λ (z : Course Rest). SafeCourse v z (Post base k))
-              (sym (subst (λ (z : Option (Reply q)). Right z (λ r. courseOf next there₁ ≡ d r m) (Unit {0})) e (fol .2 a res m)))
-              (s .1 r m v ok st),
-          step-balanced base q r n (x .world) v al st (i .balanced),
-        )) r e₂ st
+        subst (λ (z : Ask). (r : Reply z) → replyOf z a res ≡ some r → WorldStep (x .world) z r v → SafeCourse v (courseOf next there₁) (Post base k (x .calls))) same
+        (λ r e st.
+        subst (λ (z : Course Rest). SafeCourse v z (Post base k (x .calls)))
+        (sym (subst (λ (z : Option (Reply q)). Right z (λ r. courseOf next there₁ ≡ d r m) (Unit {0})) e (fol .2 a res m)))
+        (s .1 r m v ok st)) r e₂ st
 
     -- a client's question changes nothing of the map, and neither do those behind it
-    by-calm : (z : Course Rest) → Follows (x .session) h₁ z → SafeCourse (x .world) z (Post base k) → CalmCourse z → (p : Ask) (r : Reply p) → asked (asksOf (x .session)) n ≡ some p → replyOf p a res ≡ some r
+    by-calm : (z : Course Rest) → Follows (x .session) h₁ z → SafeCourse (x .world) z (Post base k (x .calls)) → CalmCourse z → (p : Ask) (r : Reply p) → asked (asksOf (x .session)) n ≡ some p → replyOf p a res ≡ some r
         → CalmAsk p × CalmCourse (courseOf next there₁)
     by-calm (ret l r₁) fol s calm p r e₁ e₂ = absurd (nothing-asked (asksOf (x .session)) n p (fol .0) e₁)
     by-calm (ask q l d) fol s calm p r e₁ e₂ =
@@ -819,76 +1127,84 @@ module _ (k : Host) (log : k .log ≡ []) (in-none : k .inbox ≡ none) (out-non
           subst CalmCourse (sym (subst (λ (z : Option (Reply q)). Right z (λ r. courseOf next there₁ ≡ d r m) (Unit {0})) e (fol .2 a res m))) (calm .1 r m),
         )) r e₂
 
-    -- what is so of the host when the closing began
-    known : (p : Ask) (r : Reply p) (v : World) → asked (asksOf (x .session)) n ≡ some p → WorldStep (x .world) p r v → y .began ≡ pick (isClosing (x .session .stage)) (x .began) (y .world .host) → y .world .host ≡ v .host
-        → (st : Stage) → x .session .stage ≡ st → Known st (x .session .closing) (y .world .host ≡ y .began)
-    known p r v e st b w g.Fresh s = idle x i n p e (subst (λ (z : Stage). Fit (Unit {0}) z (x .session .closing) (x .session .work .task)) s (i .suited))
-    known p r v e st b w (g.Open z) s = idle x i n p e (subst (λ (z : Stage). Fit (Unit {0}) z (x .session .closing) (x .session .work .task)) s (i .suited))
-    known p r v e st b w g.Ended s = idle x i n p e (subst (λ (z : Stage). Fit (Unit {0}) z (x .session .closing) (x .session .work .task)) s (i .suited))
-    known p r v e st b w (g.Prepare z) s = sym (b ∙ ap (λ (h : Stage). pick (isClosing h) (x .began) (y .world .host)) s)
-    known p r v e st b w (g.Boot z) s = sym (b ∙ ap (λ (h : Stage). pick (isClosing h) (x .began) (y .world .host)) s)
-    known p r v e st b w (g.Client z) s = tt
-    known p r v e st b w (g.Close z) s =
-        held-step z (x .session .closing) (x .session .work .task) (x .world .host ≡ x .began) (y .world .host ≡ y .began)
-        (λ no q.
-        let same = task-leaves (x .session .work .reset) (x .session .work .find) (x .session .work .task) n p r (x .world .host) (v .host) no e (st .1) in
-        w ∙ same ∙ q ∙ sym (b ∙ ap (λ (h : Stage). pick (isClosing h) (x .began) (y .world .host)) s))
-        (subst (λ (h : Stage). Fit (Unit {0}) h (x .session .closing) (x .session .work .task)) s (i .suited))
-        (subst (λ (h : Stage). HeldAt h (x .session .closing) (x .world .host ≡ x .began)) s (i .held))
+    -- what is so after the answer: in an opening its closing has not begun, and its task goes on; in a closing the host is as it was when that began
+    abbrev NextOpens : Type 0
+    NextOpens = Opens (y .began) (y .world .host) (workStepOf (x .session .work) a res .work .task)
 
-    -- from a stage of an opening or a closing no client's stage follows
-    never-next : (st : Stage) → x .session .stage ≡ st → NotClient st → Known st (x .session .closing) (Unit {0}) → IsClient (next .stage) → ⊥
-    never-next st s other q h =
-        clash (next .stage)
-        (not-client (next .stage) (next .closing) (next .work .task)
-        (step-both ⊥ (Unit {0}) (x .session) a res n o u
-        (fit-other (Unit {0}) ⊥ (x .session .stage) (x .session .closing) (x .session .work .task) (subst NotClient (sym s) other) (i .suited))
-        (subst (λ (z : Stage). Known z (x .session .closing) (Unit {0})) (sym s) q) .0)) h
+    abbrev Begins : Ask → Type 0
+    Begins p = y .began ≡ beganOnce (tears (x .calls) (some p) (x .world .host)) (x .world .host) (x .began)
 
-    known-unit : (p : Ask) → asked (asksOf (x .session)) n ≡ some p → (st : Stage) → x .session .stage ≡ st → Known st (x .session .closing) (Unit {0})
-    known-unit p e g.Fresh s = idle x i n p e (subst (λ (z : Stage). Fit (Unit {0}) z (x .session .closing) (x .session .work .task)) s (i .suited))
-    known-unit p e (g.Open z) s = idle x i n p e (subst (λ (z : Stage). Fit (Unit {0}) z (x .session .closing) (x .session .work .task)) s (i .suited))
-    known-unit p e g.Ended s = idle x i n p e (subst (λ (z : Stage). Fit (Unit {0}) z (x .session .closing) (x .session .work .task)) s (i .suited))
-    known-unit p e (g.Prepare z) s = tt
-    known-unit p e (g.Boot z) s = tt
-    known-unit p e (g.Client z) s = tt
-    known-unit p e (g.Close z) s = unit-held z (x .session .closing)
+    still-began : (p : Ask) → Begins p → asksBack (x .world .host) p ≡ false → y .began ≡ x .began
+    still-began p b e = b ∙ ap (λ (t : Bool). beganOnce t (x .world .host) (x .began)) (never-tears (x .calls) p (x .world .host) e) ∙ once-more (x .world .host) (x .began)
 
-    -- a client's stage follows a client's alone
-    client-before : (st : Stage) → x .session .stage ≡ st → Known st (x .session .closing) (Unit {0}) → IsClient (next .stage) → (z : Client) × (x .session .stage ≡ g.Client z)
-    client-before g.Fresh s q h = absurd q
-    client-before (g.Open z) s q h = absurd q
-    client-before g.Ended s q h = absurd q
-    client-before (g.Prepare z) s q h = absurd (never-next (g.Prepare z) s tt q h)
-    client-before (g.Boot z) s q h = absurd (never-next (g.Boot z) s tt q h)
-    client-before (g.Client z) s q h = (z, s)
-    client-before (g.Close z) s q h = absurd (never-next (g.Close z) s tt q h)
+    unless-map : (z : Prepare) (A B : Type 0) → (A → B) → UnlessGiven z A → UnlessGiven z B
+    unless-map p.Attributes A B h q = h q
+    unless-map p.Claim A B h q = h q
+    unless-map p.Reset A B h q = h q
+    unless-map p.Bar A B h q = h q
+    unless-map p.Inbox A B h q = h q
+    unless-map p.Outbox A B h q = h q
+    unless-map (p.GiveInbox v) A B h q = tt
+    unless-map p.Look A B h q = h q
 
-    answered-by : answerable (x .session) a ≡ true → isLent n o u ≡ true → Step x (event (callAnswer a res) n o u) y → Inv base k y
-    answered-by d b st =
-        record {
-          there = there₁;
-          box = sym (st .left ∙ ap (λ (h : Failure). boxLeft h (answerIn (x .session) a res n o u) (x .inbox)) (ap (λ (h : Turn). h .refusal) turned ∙ taken) ∙ boxed);
-          safe = subst (λ (h : Session). SafeCourse (y .world) (courseOf h there₁) (Post base k)) (sym session) (lend-safe (lentNow (x .session .stage) (next .stage)) refl);
-          balanced = subst (Balanced base) (sym host) (done .1);
-          suited = subst (Suited (Unit {0})) (sym session) (both .0);
-          held = subst (λ (h : Session). HeldAt (h .stage) (h .closing) (y .world .host ≡ y .began)) (sym session) (both .1);
-          long = λ q. ap length (st .left ∙ ap (λ (h : Failure). boxLeft h (answerIn (x .session) a res n o u) (x .inbox)) (ap (λ (h : Turn). h .refusal) turned ∙ taken) ∙ boxed) ∙ step-length (x .session) a res n o u (lent-length n o u b);
-          calm = subst (λ (h : Session). IsClient (h .stage) → CalmCourse (courseOf h there₁)) (sym session) (λ q. calmed (was q) .1);
-          live = subst (λ (h : Session). IsClient (h .stage) → h .books .wire .silent ≡ false → Live (h .info) (h .books) (y .world)) (sym session)
-              (λ q s.
-              let z = was q in
-              let e = step-same (x .session) (z .0) (z .1) a res n o u q in
-              live-same (x .session) next (y .world) e
-              (subst (Live (x .session .info) (x .session .books)) (sym (unlent q))
-              (live-step (x .session .info) (x .session .books) (x .world) (st .between) (world .0) (world .1) (calmed z .0) (world .4) (i .live (subst IsClient (sym (z .1)) tt) (sym (e .silent) ∙ s)))));
-        }
+    opens-on : (p : Ask) (r : Reply p) (v : World) → asked (asksOf (x .session)) n ≡ some p → replyOf p a res ≡ some r → WorldStep (x .world) p r v → Begins p
+        → y .world .host ≡ v .host → Opens (x .began) (x .world .host) (x .session .work .task) → NextOpens
+    opens-on p r v e d st b w o =
+        let z = unasked (x .session .work) a res n p r (x .world .host) (v .host) (o .1) e d (st .1) in
+        (still-began p b (z .0) ∙ o .0, subst (Makes (workStepOf (x .session .work) a res .work .task)) (sym w) (z .1))
+
+    known : (p : Ask) (r : Reply p) (v : World) → asked (asksOf (x .session)) n ≡ some p → replyOf p a res ≡ some r → WorldStep (x .world) p r v → Begins p
+        → y .world .host ≡ v .host → (st : Stage) → x .session .stage ≡ st → Known st (x .session .closing) NextOpens (AsBegan (y .world .host) (y .began))
+    known p r v e d st b w g.Fresh s = idle x i n p e (fit x i g.Fresh s)
+    known p r v e d st b w (g.Open z) s = idle x i n p e (fit x i (g.Open z) s)
+    known p r v e d st b w g.Ended s = idle x i n p e (fit x i g.Ended s)
+    known p r v e d st b w (g.Prepare z) s = unless-map z (Opens (x .began) (x .world .host) (x .session .work .task)) NextOpens (opens-on p r v e d st b w) (fit x i (g.Prepare z) s .2)
+    known p r v e d st b w (g.Boot z) s = opens-on p r v e d st b w (fit x i (g.Boot z) s .2)
+    known p r v e d st b w (g.Client z) s = tt
+    known p r v e d st b w (g.Close z) s =
+        plan-held z (x .session .closing) (x .session .work .task) (AsBegan (x .world .host) (x .began)) (AsBegan (y .world .host) (y .began))
+        (λ no q l f.
+        let leaves = task-leaves (x .session .work .reset) (x .session .work .find) (x .session .work .task) n p (x .world .host) (v .host) no e in
+        w ∙ leaves .1 r (st .1) ∙ q l (sym (still-began p b (leaves .0)) ∙ f))
+        (fit x i (g.Close z) s .1) (subst (λ (h : Stage). HeldAt h (x .session .closing) (AsBegan (x .world .host) (x .began))) s (i .held))
+
+    pub answered-by : answerable (x .session) a ≡ true → isLent n o u ≡ true → Step x (event (callAnswer a res) n o u) y → (j : Inv base k y) × (j .there ≡ there₁) × GivesBack (x .world) (y .world)
+    answered-by d b st = (
+      record {
+        there = there₁;
+        box = sym (st .left ∙ ap (λ (h : Failure). boxLeft h (answerIn (x .session) a res n o u) (x .inbox)) not-refused ∙ boxed);
+        safe =
+            subst (λ (h : Session). SafeCourse (y .world) (courseOf h there₁) (Post base k (y .calls))) (sym session)
+            (subst (λ (l : List Call). SafeCourse (y .world) (courseOf next there₁) (Post base k l)) (sym calls) (lent₁ .0));
+        tied = subst Tied (sym host) (step-tied (world .0) (world .1) n (x .world) (st .between) al (world .4) (i .tied));
+        inside = lent₁ .1;
+        suited =
+            subst (λ (l : List Call). Suited (Last OfClient l) (Last IsOpening l) (Last Tears l) (Opens (y .began) (y .world .host)) (y .session)) (sym calls)
+            (subst (Suited (Last OfClient (x .calls)) (Last IsOpening (x .calls)) (Last Tears (x .calls)) (Opens (y .began) (y .world .host))) (sym session) (both .0));
+        held = subst (λ (h : Session). HeldAt (h .stage) (h .closing) (AsBegan (y .world .host) (y .began))) (sym session) (both .1);
+        alive = subst Alive (sym session) (step-alive n (lent-length n o u b) (x .session) a res o u running (i .alive .0) (busy x i n (world .0) (world .2) (isResting (x .session .work .task)) refl));
+        loud = λ q.
+            ap (λ (h : Session). h .books .wire .silent) session
+            ∙ step-fact (NoQuiesce (x .calls)) (x .session) (counted (x .session) (i .alive .0), i .loud) a res n o u .1 (subst NoQuiesce calls q);
+        long = λ q. ap length (st .left ∙ ap (λ (h : Failure). boxLeft h (answerIn (x .session) a res n o u) (x .inbox)) not-refused ∙ boxed) ∙ step-length (x .session) a res n o u (lent-length n o u b);
+        calm = subst (λ (h : Session). IsClient (h .stage) → CalmCourse (courseOf h there₁)) (sym session) (λ q. calmed (was q) .1);
+        live = subst (λ (h : Session). IsClient (h .stage) → NoQuiesce (y .calls) → Live (h .info) (h .books) (y .world)) (sym session)
+            (λ q s.
+            let z = was q in
+            let e = step-same (x .session) (z .0) (z .1) a res n o u q in
+            live-same (x .session) next (y .world) e
+            (subst (Live (x .session .info) (x .session .books)) (sym (unlent q))
+            (live-step (x .session .info) (x .session .books) (x .world) (st .between) (world .0) (world .1) n al (calmed z .0) (world .4) (i .live (subst IsClient (sym (z .1)) tt) (subst NoQuiesce calls s)))));
+      },
+      refl,
+      step-gives (world .0) (world .1) n (x .world) (y .world) al (subst (λ (h : Host). HostStep (x .world .host) (world .0) (world .1) h) (sym host) (world .4 .1)),
+    )
       where
         turned : answerOf (x .session) a res n o u ≡ stepOf (x .session) a res n o u
         turned = in-good (answerable (x .session) a) (isLent n o u) _ _ _ d b
 
-        taken : stepOf (x .session) a res n o u .refusal ≡ f.Nothing
-        taken = step-taken (x .session) a res n o u
+        not-refused : answerOf (x .session) a res n o u .refusal ≡ f.Nothing
+        not-refused = ap (λ (h : Turn). h .refusal) turned ∙ step-taken (x .session) a res n o u
 
         boxed : answerIn (x .session) a res n o u ≡ stepIn (x .session) a res n o u
         boxed = in-good (answerable (x .session) a) (isLent n o u) _ _ _ d b
@@ -896,38 +1212,77 @@ module _ (k : Host) (log : k .log ≡ []) (in-none : k .inbox ≡ none) (out-non
         session : y .session ≡ next
         session = st .session ∙ ap (λ (h : Turn). h .session) turned
 
+        calls : y .calls ≡ x .calls
+        calls = st .calls ∙ ap (λ (h : Failure). callsBy h (callAnswer a res) (x .calls)) not-refused
+
         world : Answers (x .session) n a res (x .world) (st .between)
-        world = subst (λ (h : Failure). Happens h (callAnswer a res) (x .session) n (x .world) (st .between)) (ap (λ (h : Turn). h .refusal) turned ∙ taken) (st .happens)
+        world = subst (λ (h : Failure). Happens h (callAnswer a res) (x .session) n (x .world) (st .between)) not-refused (st .happens)
 
         lent : n ≡ x .inbox
-        lent = subst (λ (h : Failure). SameBox h n (x .inbox)) (ap (λ (h : Turn). h .refusal) turned ∙ taken) (st .lent)
+        lent = subst (λ (h : Failure). SameBox h n (x .inbox)) not-refused (st .lent)
+
+        running : isRunning (x .session .stage) ≡ true
+        running = runs x i n (world .0) (world .2) (x .session .stage) refl
 
         fol : Follows (x .session) h₁ (courseOf (x .session) h₁)
         fol = follows x i n (world .0) (world .2) (lent-length n o u b)
 
-        done : Onward (st .between)
+        -- the question was allowed
+        al : Allowed n (x .world) (world .0)
+        al = asked-by x i n h₁ (courseOf (x .session) h₁) refl fol (safe-here x i n lent) (world .0) (world .2)
+
+        done : SafeCourse (st .between) (courseOf next there₁) (Post base k (x .calls))
         done = by-course (courseOf (x .session) h₁) fol (safe-here x i n lent) (st .lendable) (st .between) (world .0) (world .1) (world .2) (world .3) (world .4)
 
         -- what was lent just now
-        lends : y .world ≡ lendsTo (lentNow (x .session .stage) (next .stage)) (st .between)
-        lends = st .world ∙ ap (λ (h : Session). lendsTo (lentNow (x .session .stage) (h .stage)) (st .between)) session
+        lends : y .world ≡ lendsTo (lentBy (x .calls) next) (st .between)
+        lends =
+            st .world
+            ∙ ap (λ (h : Option Buffer). lendsTo h (st .between))
+            (ap (λ (h : Failure). lentNow h (y .calls) (y .session)) not-refused ∙ ap (λ (l : List Call). lentBy l (y .session)) calls ∙ ap (lentBy (x .calls)) session)
 
         host : y .world .host ≡ st .between .host
-        host = ap (λ (h : World). h .host) lends ∙ lent-host (lentNow (x .session .stage) (next .stage)) (st .between)
+        host = ap (λ (h : World). h .host) lends ∙ lent-host (lentBy (x .calls) next) (st .between)
 
-        lend-safe : (z : Option Buffer) → lentNow (x .session .stage) (next .stage) ≡ z → SafeCourse (y .world) (courseOf next there₁) (Post base k)
-        lend-safe none e = subst (λ (h : World). SafeCourse h (courseOf next there₁) (Post base k)) (sym (lends ∙ ap (λ (h : Option Buffer). lendsTo h (st .between)) e)) (done .0)
-        lend-safe (some c₁) e =
-            subst (λ (h : World). SafeCourse h (courseOf next there₁) (Post base k)) (sym (lends ∙ ap (λ (h : Option Buffer). lendsTo h (st .between)) e))
-            (lent-post base k next there₁ (st .between) c₁ (lent-given (x .session .stage) (next .stage) c₁ e) (done .0))
+        lent₁ : SafeCourse (y .world) (courseOf next there₁) (Post base k (x .calls)) × Inside (y .world)
+        lent₁ = subst (λ (h : World). SafeCourse h (courseOf next there₁) (Post base k (x .calls)) × Inside h) (sym lends) (by (lentBy (x .calls) next) refl)
+          where
+            in₁ : Inside (st .between)
+            in₁ = step-inside (world .0) (world .1) n (x .world) (st .between) al (world .4) (i .inside)
 
-        both : Both (Unit {0}) (y .world .host ≡ y .began) next
+            by : (z : Option Buffer) → lentBy (x .calls) next ≡ z → SafeCourse (lendsTo z (st .between)) (courseOf next there₁) (Post base k (x .calls)) × Inside (lendsTo z (st .between))
+            by none e = (done, in₁)
+            by (some c₁) e =
+                let z = lent-post base k (x .calls) next there₁ (st .between) c₁ (lent-given (x .calls) next c₁ e) done in
+                (z .0, lent-inside (st .between) c₁ (z .1) in₁)
+
+        began : Begins (world .0)
+        began =
+            st .began
+            ∙ ap (λ (h : Failure). beganNow h (callAnswer a res) (x .calls) (asked (asksOf (x .session)) n) (x .world .host) (x .began)) not-refused
+            ∙ ap (λ (p : Option Ask). beganOnce (tears (x .calls) p (x .world .host)) (x .world .host) (x .began)) (world .2)
+
+        both : Both (Last OfClient (x .calls)) (Last IsOpening (x .calls)) (Last Tears (x .calls)) (Opens (y .began) (y .world .host)) (AsBegan (y .world .host) (y .began)) next
         both =
-            step-both (Unit {0}) (y .world .host ≡ y .began) (x .session) a res n o u (i .suited)
-            (known (world .0) (world .1) (st .between) (world .2) (world .4) (st .began) host (x .session .stage) refl)
+            step-both (Last OfClient (x .calls)) (Last IsOpening (x .calls)) (Last Tears (x .calls)) (Opens (y .began) (y .world .host)) (opens-again (y .began) (y .world .host))
+            NextOpens (AsBegan (y .world .host) (y .began)) (λ z. none-began (y .world .host) (y .began) (z .0)) (λ z t h. (z .0, starts-makes t (y .world .host) h)) (x .session) a res n o u (λ z. z)
+            (Opens (x .began) (x .world .host)) (i .suited) (known (world .0) (world .1) (st .between) (world .2) (world .3) (world .4) began host (x .session .stage) refl)
 
+        -- a client's stage follows a client's alone
         was : IsClient (next .stage) → (z : Client) × (x .session .stage ≡ g.Client z)
-        was q = client-before (x .session .stage) refl (known-unit (world .0) (world .2) (x .session .stage) refl) q
+        was q = by (x .session .stage) refl
+          where
+            c₁ : Last OfClient (x .calls)
+            c₁ = client-fits (Last OfClient (x .calls)) (Last IsOpening (x .calls)) (Last Tears (x .calls)) (Opens (y .began) (y .world .host)) (next .stage) (next .closing) (next .work .task) q (both .0)
+
+            by : (st : Stage) → x .session .stage ≡ st → (z : Client) × (x .session .stage ≡ g.Client z)
+            by g.Fresh s = absurd (idle x i n (world .0) (world .2) (fit x i g.Fresh s))
+            by (g.Open z) s = absurd (idle x i n (world .0) (world .2) (fit x i (g.Open z) s))
+            by g.Ended s = absurd (idle x i n (world .0) (world .2) (fit x i g.Ended s))
+            by (g.Prepare z) s = absurd (last-not OfClient IsOpening client-opening (x .calls) c₁ (fit x i (g.Prepare z) s .0))
+            by (g.Boot z) s = absurd (last-not OfClient IsOpening client-opening (x .calls) c₁ (fit x i (g.Boot z) s .0))
+            by (g.Client z) s = (z, s)
+            by (g.Close z) s = absurd (last-not OfClient Tears client-tears (x .calls) c₁ (fit x i (g.Close z) s .0))
 
         calmed : (z : Client) × (x .session .stage ≡ g.Client z) → CalmAsk (world .0) × CalmCourse (courseOf next there₁)
         calmed z =
@@ -937,14 +1292,14 @@ module _ (k : Host) (log : k .log ≡ []) (in-none : k .inbox ≡ none) (out-non
 
         -- while a client's call goes on nothing is lent
         unlent : IsClient (next .stage) → y .world ≡ st .between
-        unlent q = lends ∙ ap (λ (h : Option Buffer). lendsTo h (st .between)) (client-lends (isLending (x .session .stage)) (next .stage) q)
+        unlent q = lends ∙ ap (λ (h : Option Buffer). lendsTo h (st .between)) (client-lends (x .calls) next q (lentBy (x .calls) next) refl)
 
   -- ANY EVENT
-  step : (x : Stand) (a : Call) (n o : List ℕ) (u : Top) (y : Stand) → Inv base k x → Step x (event a n o u) y → Inv base k y
+  pub step : (x : Stand) (a : Input) (n o : List ℕ) (u : Top) (y : Stand) → Inv base k x → Step x (event a n o u) y → Onto x y
   step x (callMake d input) n o u y i st = by-time (callable (x .session) d) refl (lentFor d input n o u) refl (barred (x .session) d) refl
     where
-      by-time : (t : Bool) → callable (x .session) d ≡ t → (r : Bool) → lentFor d input n o u ≡ r → (z : Failure) → barred (x .session) d ≡ z → Inv base k y
-      by-time true p true q f.Nothing e = made-by x y d input n o u i p q e st
+      by-time : (t : Bool) → callable (x .session) d ≡ t → (r : Bool) → lentFor d input n o u ≡ r → (z : Failure) → barred (x .session) d ≡ z → Onto x y
+      by-time true p true q f.Nothing e = let z = made-by x y d input n o u i p q e st in (z .0, z .2)
       by-time true p true q (f.By w) e =
           let z : callOf (x .session) d input n o u ≡ refusedOf (x .session) w (u .count) =
           in-good (callable (x .session) d) (lentFor d input n o u) _ _ _ p q ∙ ap (λ (h : Failure). unless h (begunTurn (x .session) d input n u) (λ w. refusedOf (x .session) w (u .count))) e in
@@ -957,8 +1312,8 @@ module _ (k : Host) (log : k .log ≡ []) (in-none : k .inbox ≡ none) (out-non
           refused x (event (callMake d input) n o u) y r.Wrong (ap (λ (h : Turn). h .session) z) (ap (λ (h : Turn). h .refusal) z) i st
   step x (callAnswer a res) n o u y i st = by-time (answerable (x .session) a) refl (isLent n o u) refl
     where
-      by-time : (t : Bool) → answerable (x .session) a ≡ t → (r : Bool) → isLent n o u ≡ r → Inv base k y
-      by-time true p true q = answered-by x y n o u i a res p q st
+      by-time : (t : Bool) → answerable (x .session) a ≡ t → (r : Bool) → isLent n o u ≡ r → Onto x y
+      by-time true p true q = let z = answered-by x y n o u i a res p q st in (z .0, z .2)
       by-time true p false q =
           let z = in-short (answerable (x .session) a) (isLent n o u) (stepOf (x .session) a res n o u) (refusedOf (x .session) r.Short (u .count)) (refusedOf (x .session) r.Wrong (u .count)) p q in
           refused x (event (callAnswer a res) n o u) y r.Short (ap (λ (h : Turn). h .session) z) (ap (λ (h : Turn). h .refusal) z) i st
@@ -968,20 +1323,27 @@ module _ (k : Host) (log : k .log ≡ []) (in-none : k .inbox ≡ none) (out-non
 
   always : (es : List Event) (x : Stand) → Inv base k x → Always base es x
   always [] x i = good x i
-  always (z ∷ es) x i = (good x i, λ y st. always es y (step x (z .call) (z .inbox) (z .outbox) (z .undo) y i st))
+  always (z ∷ es) x i = (
+    good x i,
+    λ y st. let s = step x (z .call) (z .inbox) (z .outbox) (z .undo) y i st in (s .1, always es y (s .0)),
+  )
 
 -- A FRESH SESSION
 no-top : Top
 no-top = record { count = 0; op = 0; «op_mod» = 0; «in_mod» = 0; «in_param» = 0 }
 
-starts : (x : Stand) → Start x → Inv (x .world .host .hand) (x .world .host) x
+pub starts : (x : Stand) → Start x → Inv (x .world .host .hand) (x .world .host) x
 starts x s = record {
   there = here (x .inbox) [] no-top;
   box = refl;
-  safe = subst (λ (h : Session). SafeCourse (x .world) (courseOf h (here (x .inbox) [] no-top)) (Post (x .world .host .hand) (x .world .host))) (sym (s .session)) (record { host = refl });
-  balanced = λ h. subst (λ (l : List _). outs h l + inHand (x .world .host .hand h) ≡ backs h l + inHand (x .world .host .hand h)) (sym (s .log)) refl;
-  suited = subst (Suited (Unit {0})) (sym (s .session)) tt;
-  held = subst (λ (h : Session). HeldAt (h .stage) (h .closing) (x .world .host ≡ x .began)) (sym (s .session)) tt;
+  safe = subst (λ (h : Session). SafeCourse (x .world) (courseOf h (here (x .inbox) [] no-top)) (Post (x .world .host .hand) (x .world .host) (x .calls))) (sym (s .session))
+      (record { host = refl; untaken = subst Untaken (sym (s .calls)) tt });
+  tied = record { order = subst InOrder (sym (s .log)) tt; held = λ h n e. absurd (Option·none-ne-some n (ap (standing h) (sym (s .log)) ∙ e)) };
+  inside = inl (s .log);
+  suited = subst (Suited (Last OfClient (x .calls)) (Last IsOpening (x .calls)) (Last Tears (x .calls)) (Opens (x .began) (x .world .host))) (sym (s .session)) tt;
+  held = subst (λ (h : Session). HeldAt (h .stage) (h .closing) (AsBegan (x .world .host) (x .began))) (sym (s .session)) tt;
+  alive = subst Alive (sym (s .session)) (refl, tt);
+  loud = λ q. ap (λ (h : Session). h .books .wire .silent) (s .session);
   long = λ q. absurd (false≢true (ap (λ (h : Session). isRunning (h .stage)) (sym (s .session)) ∙ q));
   calm = λ q. absurd (subst (λ (h : Session). IsClient (h .stage)) (s .session) q);
   live = λ q b. absurd (subst (λ (h : Session). IsClient (h .stage)) (s .session) q);

@@ -1,7 +1,11 @@
 pub mod Plans
 pub mod Settle
 pub mod Questions
+pub mod Made
 pub mod OnePage
 pub mod Inbox
 pub mod Clients
+pub mod Alive
+pub mod Inside
 pub mod Demand
+pub mod Refuses

@@ -30,6 +30,8 @@ use Rattle.reset.specs.declared.Ending.the-variants as rg
 use Rattle.buffer.specs.Buffer.{byOutcome}
 use Rattle.buffer.specs.declared.Made.{Made}
 use Rattle.buffer.specs.declared.Made.the-variants as m
+use Rattle.buffer.specs.declared.MakePhase.{MakePhase}
+use Rattle.buffer.specs.declared.MakePhase.the-variants as mp
 use Rattle.tasks.specs.Parting.{partStepOf}
 use Rattle.tasks.specs.declared.PartingStep.{PartingStep}
 use Rattle.tasks.specs.declared.PartingStep.the-variants as ps
@@ -128,6 +130,25 @@ IsRest (t.Free x) = ⊥
 IsRest t.Look = ⊥
 IsRest (t.Cmd x) = ⊥
 IsRest (t.Part x) = ⊥
+
+-- a task at its start that asks nothing back of the host
+abbrev pub StartsAt : MakePhase → Type 0
+StartsAt mp.Allocate = Unit {0}
+StartsAt (mp.Map h) = ⊥
+StartsAt (mp.Unmap h x) = ⊥
+StartsAt (mp.Free h x) = ⊥
+
+abbrev pub Starts : Task → Type 0
+Starts t.Rest = Unit {0}
+Starts (t.Attr x) = Unit {0}
+Starts (t.Claim x) = Unit {0}
+Starts t.Reset = Unit {0}
+Starts t.Bar = Unit {0}
+Starts (t.Make x) = StartsAt (x .phase)
+Starts (t.Free x) = ⊥
+Starts t.Look = Unit {0}
+Starts (t.Cmd x) = Unit {0}
+Starts (t.Part x) = Unit {0}
 
 abbrev pub FitClose : Close → Closing → Task → Type 0
 FitClose (k.Undo i) z x = NoHost x
@@ -237,7 +258,7 @@ part-going : (v : Work) (x : PartingStep) → NoHost (partWork v x .work .task)
 part-going v (ps.More x) = tt
 part-going v ps.Ended = tt
 
-task-going : (v : Work) (r : Answer) (bytes : List ℕ) (x : Task) → NoHost x → NoHost (taskStep v r bytes x .work .task)
+pub task-going : (v : Work) (r : Answer) (bytes : List ℕ) (x : Task) → NoHost x → NoHost (taskStep v r bytes x .work .task)
 task-going v r bytes t.Rest h = tt
 task-going v r bytes (t.Attr x) h = attr-going v (attrStepOf x r)
 task-going v r bytes (t.Claim x) h = claim-going v (claimStepOf x r)
@@ -266,15 +287,26 @@ fit-going k.FreeOutbox z x x′ f h = h
 fit-going k.Release z x x′ f h = f h
 fit-going k.Restore z x x′ f h = f h
 
--- what is known of E before a step: in an opening it is so, for its closing would begin now
-abbrev pub Known : Stage → Closing → Type 0 → Type 0
-Known g.Fresh z E = ⊥
-Known (g.Open y) z E = ⊥
-Known g.Ended z E = ⊥
-Known (g.Prepare y) z E = E
-Known (g.Boot y) z E = E
-Known (g.Client y) z E = Unit {0}
-Known (g.Close y) z E = HeldClose y z E
+-- the other mailbox is given back where the outbox was not to be had: the one buffer that an opening asks back before its closing, and then all is given back
+abbrev pub UnlessGiven : Prepare → Type 0 → Type 0
+UnlessGiven p.Attributes N = N
+UnlessGiven p.Claim N = N
+UnlessGiven p.Reset N = N
+UnlessGiven p.Bar N = N
+UnlessGiven p.Inbox N = N
+UnlessGiven p.Outbox N = N
+UnlessGiven (p.GiveInbox x) N = Unit {0}
+UnlessGiven p.Look N = N
+
+-- what is known before a step: N in an opening, whose closing has not begun; E in a closing
+abbrev pub Known : Stage → Closing → (N E : Type 0) → Type 0
+Known g.Fresh z N E = ⊥
+Known (g.Open y) z N E = ⊥
+Known g.Ended z N E = ⊥
+Known (g.Prepare y) z N E = UnlessGiven y N
+Known (g.Boot y) z N E = N
+Known (g.Client y) z N E = Unit {0}
+Known (g.Close y) z N E = HeldClose y z E
 
 -- E becomes F: where nothing changes, and where the task asks nothing of the host
 pub held-map : (st : Stage) (z : Closing) (E F : Type 0) → (E → F) → HeldAt st z E → HeldAt st z F
@@ -320,19 +352,19 @@ held-step k.FreeOutbox z x E F f q h = tt
 held-step k.Release z x E F f q h = λ r. f q (h r)
 held-step k.Restore z x E F f q h = λ r. f q (h r)
 
--- WHAT THE PLANS KEEP, with a fact C that must be so where a client's call is under way
-module _ (C : Type 0) where
-  abbrev pub Fit : Stage → Closing → Task → Type 0
-  Fit g.Fresh z x = IsRest x
-  Fit (g.Open y) z x = IsRest x
-  Fit g.Ended z x = IsRest x
-  Fit (g.Prepare y) z x = Unit {0}
-  Fit (g.Boot y) z x = Unit {0}
-  Fit (g.Client y) z x = C
-  Fit (g.Close y) z x = FitClose y z x
+-- WHAT THE PLANS KEEP, with facts that must be so: C where a client's call is under way, P and D in an opening, D in a closing; and T of an opening's task
+abbrev pub Fit : (C P D : Type 0) → (Task → Type 0) → Stage → Closing → Task → Type 0
+Fit C P D T g.Fresh z x = IsRest x
+Fit C P D T (g.Open y) z x = IsRest x
+Fit C P D T g.Ended z x = IsRest x
+Fit C P D T (g.Prepare y) z x = P × D × UnlessGiven y (T x)
+Fit C P D T (g.Boot y) z x = P × D × T x
+Fit C P D T (g.Client y) z x = C
+Fit C P D T (g.Close y) z x = D × FitClose y z x
 
+module _ (C P D : Type 0) (T : Task → Type 0) where
   abbrev pub Suited : Session → Type 0
-  Suited s = Fit (s .stage) (s .closing) (s .work .task)
+  Suited s = Fit C P D T (s .stage) (s .closing) (s .work .task)
 
   abbrev Lawful : Planned → Type 0
   Lawful y = Suited (y .session)
@@ -353,97 +385,98 @@ module _ (C : Type 0) where
   frees-hold E o.Absent y z h k = k
   frees-hold E (o.Held d) y z h k = h d
 
-  module _ (E : Type 0) (s : Session) (no : s .closing ≡ c.Kept → ⊥) (n : ℕ) where
-    given : Frees E (givenPlan s n)
-    given = (tt, λ e. absurd (no e))
+  module _ (on : D) where
+    module _ (E : Type 0) (s : Session) (no : s .closing ≡ c.Kept → ⊥) (n : ℕ) where
+      given : Frees E (givenPlan s n)
+      given = ((on, tt), λ e. absurd (no e))
 
-    out-freed : Frees E (outboxPlan s n)
-    unfolding outboxPlan
-    out-freed = frees-hold E (s .books .held .outbox) _ _ (λ d. (no, tt)) given
+      out-freed : Frees E (outboxPlan s n)
+      unfolding outboxPlan
+      out-freed = frees-hold E (s .books .held .outbox) _ _ (λ d. ((on, no), tt)) given
 
-    in-freed : Frees E (inboxPlan s n)
-    unfolding inboxPlan
-    in-freed = frees-hold E (s .books .held .inbox) _ _ (λ d. (no, tt)) out-freed
+      in-freed : Frees E (inboxPlan s n)
+      unfolding inboxPlan
+      in-freed = frees-hold E (s .books .held .inbox) _ _ (λ d. ((on, no), tt)) out-freed
 
-    fa-freed : Frees E (faPlan s n)
-    unfolding faPlan
-    fa-freed = frees-hold E (s .books .held .fa) _ _ (λ d. (no, tt)) in-freed
+      fa-freed : Frees E (faPlan s n)
+      unfolding faPlan
+      fa-freed = frees-hold E (s .books .held .fa) _ _ (λ d. ((on, no), tt)) in-freed
 
-    aux-freed : Frees E (auxPlan s n)
-    unfolding auxPlan
-    aux-freed = frees-hold E (s .books .held .aux) _ _ (λ d. (no, tt)) fa-freed
+      aux-freed : Frees E (auxPlan s n)
+      unfolding auxPlan
+      aux-freed = frees-hold E (s .books .held .aux) _ _ (λ d. ((on, no), tt)) fa-freed
 
-    icm-freed : (i : ℕ) → Frees E (icmPlan s i n)
-    unfolding icmPlan
-    icm-freed i = frees-pick E (ltb i (s .books .lists .ranges)) _ _ (no, tt) aux-freed
+      icm-freed : (i : ℕ) → Frees E (icmPlan s i n)
+      unfolding icmPlan
+      icm-freed i = frees-pick E (ltb i (s .books .lists .ranges)) _ _ ((on, no), tt) aux-freed
 
-    lent-freed : (i : ℕ) → Frees E (lentPlan s i n)
-    unfolding lentPlan
-    lent-freed i = frees-pick E (ltb i (s .books .lists .lends)) _ _ (no, tt) (icm-freed 0)
+      lent-freed : (i : ℕ) → Frees E (lentPlan s i n)
+      unfolding lentPlan
+      lent-freed i = frees-pick E (ltb i (s .books .lists .lends)) _ _ ((on, no), tt) (icm-freed 0)
 
-  -- CLOSING
-  failed-suited : (s : Session) (n : ℕ) → Lawful (failedPlan s n)
-  unfolding failedPlan
-  failed-suited s n = lawful-pick (s .books .wire .silent) _ _ tt tt
+    -- CLOSING
+    failed-suited : (s : Session) (n : ℕ) → Lawful (failedPlan s n)
+    unfolding failedPlan
+    failed-suited s n = lawful-pick (s .books .wire .silent) _ _ (on, tt) (on, tt)
 
-  stopped-suited : (s : Session) (n : ℕ) → Lawful (stoppedPlan s n)
-  unfolding stoppedPlan
-  stopped-suited s n =
-      lawful-pick (s .books .wire .silent) _ _ tt (lawful-pick (s .books .wire .running) _ _ tt (lent-freed (Unit {0}) (closesOf s c.Clean (s .books)) clean-differs n 0 .0))
+    stopped-suited : (s : Session) (n : ℕ) → Lawful (stoppedPlan s n)
+    unfolding stoppedPlan
+    stopped-suited s n =
+        lawful-pick (s .books .wire .silent) _ _ (on, tt) (lawful-pick (s .books .wire .running) _ _ (on, tt) (lent-freed (Unit {0}) (closesOf s c.Clean (s .books)) clean-differs n 0 .0))
 
-  fa-suited : (s : Session) (n : ℕ) → Lawful (unmapFaPlan s n)
-  unfolding unmapFaPlan
-  fa-suited s n = lawful-pick (isHeld (s .books .held .fa)) _ _ tt (stopped-suited s n)
+    fa-suited : (s : Session) (n : ℕ) → Lawful (unmapFaPlan s n)
+    unfolding unmapFaPlan
+    fa-suited s n = lawful-pick (isHeld (s .books .held .fa)) _ _ (on, tt) (stopped-suited s n)
 
-  aux-suited : (s : Session) (n : ℕ) → Lawful (unmapAuxPlan s n)
-  unfolding unmapAuxPlan
-  aux-suited s n = lawful-pick (isHeld (s .books .held .aux)) _ _ tt (fa-suited s n)
+    aux-suited : (s : Session) (n : ℕ) → Lawful (unmapAuxPlan s n)
+    unfolding unmapAuxPlan
+    aux-suited s n = lawful-pick (isHeld (s .books .held .aux)) _ _ (on, tt) (fa-suited s n)
 
-  unmap-suited : (s : Session) (i n : ℕ) → Lawful (unmapPlan s i n)
-  unfolding unmapPlan
-  unmap-suited s zero n = aux-suited s n
-  unmap-suited s (suc i) n = tt
+    unmap-suited : (s : Session) (i n : ℕ) → Lawful (unmapPlan s i n)
+    unfolding unmapPlan
+    unmap-suited s zero n = aux-suited s n
+    unmap-suited s (suc i) n = (on, tt)
 
-  hca-suited : (s : Session) (n : ℕ) → Lawful (closeHcaPlan s n)
-  unfolding closeHcaPlan
-  hca-suited s n = lawful-pick (s .books .started) _ _ tt (unmap-suited s (s .books .lists .ranges) n)
+    hca-suited : (s : Session) (n : ℕ) → Lawful (closeHcaPlan s n)
+    unfolding closeHcaPlan
+    hca-suited s n = lawful-pick (s .books .started) _ _ (on, tt) (unmap-suited s (s .books .lists .ranges) n)
 
-  undo-sent : (s : Session) (i : ℕ) (y : Top) → Lawful (undoSend s i y)
-  undo-sent s zero y = failed-suited s (y .count)
-  undo-sent s (suc i) y = lawful-pick (isReserved (y .op)) _ _ (failed-suited s (y .count)) tt
+    undo-sent : (s : Session) (i : ℕ) (y : Top) → Lawful (undoSend s i y)
+    undo-sent s zero y = failed-suited s (y .count)
+    undo-sent s (suc i) y = lawful-pick (isReserved (y .op)) _ _ (failed-suited s (y .count)) (on, tt)
 
-  undo-suited : (s : Session) (i : ℕ) (y : Top) → Lawful (undoPlan s i y)
-  unfolding undoPlan
-  undo-suited s i y = lawful-pick (eqb (y .count) 0) _ _ (hca-suited s (y .count)) (undo-sent s i y)
+    undo-suited : (s : Session) (i : ℕ) (y : Top) → Lawful (undoPlan s i y)
+    unfolding undoPlan
+    undo-suited s i y = lawful-pick (eqb (y .count) 0) _ _ (hca-suited s (y .count)) (undo-sent s i y)
 
-  pub stop-suited : (s : Session) (y : Top) → Lawful (stopPlan s y)
-  unfolding stopPlan
-  stop-suited s y = lawful-pick (s .books .wire .broken) _ _ tt (undo-suited s UNDOS y)
+    pub stop-suited : (s : Session) (y : Top) → Lawful (stopPlan s y)
+    unfolding stopPlan
+    stop-suited s y = lawful-pick (s .books .wire .broken) _ _ (on, tt) (undo-suited s UNDOS y)
 
-  pub quiesce-suited : (s : Session) (y : Top) → Lawful (quiescePlan s y)
-  unfolding quiescePlan
-  quiesce-suited s y = lawful-pick (s .books .wire .broken) _ _ tt (undo-suited (silencedOf s) UNDOS y)
+    pub quiesce-suited : (s : Session) (y : Top) → Lawful (quiescePlan s y)
+    unfolding quiescePlan
+    quiesce-suited s y = lawful-pick (s .books .wire .broken) _ _ (on, tt) (undo-suited (silencedOf s) UNDOS y)
 
-  reset-suited : (s : Session) (x : ResetEnd) (n : ℕ) → Lawful (wasReset s x n)
-  reset-suited s x n = lawful-pick (isGood x) _ _ (lent-freed (Unit {0}) (closesOf s c.Reset (s .books)) reset-differs n 0 .0) tt
+    reset-suited : (s : Session) (x : ResetEnd) (n : ℕ) → Lawful (wasReset s x n)
+    reset-suited s x n = lawful-pick (isGood x) _ _ (lent-freed (Unit {0}) (closesOf s c.Reset (s .books)) reset-differs n 0 .0) (on, tt)
 
-  -- a task of a closing has ended
-  close-lawful : (E : Type 0) (s : Session) (y : End) (top : Top) (st : Close) (x : Task) → FitClose st (s .closing) x → HeldClose st (s .closing) E → Frees E (closePlanAt s y top st)
-  close-lawful E s y top (k.Undo i) x h d = (lawful-pick (isDone (cmdIn y .result)) _ _ (undo-suited (tookOf s (cmdIn y)) i top) (failed-suited (tookOf s (cmdIn y)) (top .count)), held-in (closePlanAt s y top (k.Undo i)) E d)
-  close-lawful E s y top k.CloseHca x h d = (lawful-pick (isDone (cmdIn y .result)) _ _ (unmap-suited (tookOf s (cmdIn y)) (s .books .lists .ranges) (top .count)) (failed-suited (tookOf s (cmdIn y)) (top .count)), held-in (closePlanAt s y top k.CloseHca) E d)
-  close-lawful E s y top (k.Unmap i) x h d = (lawful-pick (isDone (cmdIn y .result)) _ _ (unmap-suited (tookOf s (cmdIn y)) i (top .count)) (failed-suited (tookOf s (cmdIn y)) (top .count)), held-in (closePlanAt s y top (k.Unmap i)) E d)
-  close-lawful E s y top k.UnmapAux x h d = (lawful-pick (isDone (cmdIn y .result)) _ _ (fa-suited (tookOf s (cmdIn y)) (top .count)) (failed-suited (tookOf s (cmdIn y)) (top .count)), held-in (closePlanAt s y top k.UnmapAux) E d)
-  close-lawful E s y top k.UnmapFa x h d = (lawful-pick (isDone (cmdIn y .result)) _ _ (stopped-suited (tookOf s (cmdIn y)) (top .count)) (failed-suited (tookOf s (cmdIn y)) (top .count)), held-in (closePlanAt s y top k.UnmapFa) E d)
-  close-lawful E s y top k.Quiesce x h d = (tt, tt)
-  close-lawful E s y top k.Reset x h d = (reset-suited s (resetIn y) (top .count), held-in (closePlanAt s y top k.Reset) E d)
-  close-lawful E s y top (k.FreeLent i) x h d = lent-freed E s h (top .count) i
-  close-lawful E s y top (k.FreeIcm i) x h d = icm-freed E s h (top .count) i
-  close-lawful E s y top k.FreeAux x h d = fa-freed E s h (top .count)
-  close-lawful E s y top k.FreeFa x h d = in-freed E s h (top .count)
-  close-lawful E s y top k.FreeInbox x h d = out-freed E s h (top .count)
-  close-lawful E s y top k.FreeOutbox x h d = given E s h (top .count)
-  close-lawful E s y top k.Release x h d = (tt, d)
-  close-lawful E s y top k.Restore x h d = (tt, d)
+    -- a task of a closing has ended
+    close-lawful : (E : Type 0) (s : Session) (y : End) (top : Top) (st : Close) (x : Task) → FitClose st (s .closing) x → HeldClose st (s .closing) E → Frees E (closePlanAt s y top st)
+    close-lawful E s y top (k.Undo i) x h d = (lawful-pick (isDone (cmdIn y .result)) _ _ (undo-suited (tookOf s (cmdIn y)) i top) (failed-suited (tookOf s (cmdIn y)) (top .count)), held-in (closePlanAt s y top (k.Undo i)) E d)
+    close-lawful E s y top k.CloseHca x h d = (lawful-pick (isDone (cmdIn y .result)) _ _ (unmap-suited (tookOf s (cmdIn y)) (s .books .lists .ranges) (top .count)) (failed-suited (tookOf s (cmdIn y)) (top .count)), held-in (closePlanAt s y top k.CloseHca) E d)
+    close-lawful E s y top (k.Unmap i) x h d = (lawful-pick (isDone (cmdIn y .result)) _ _ (unmap-suited (tookOf s (cmdIn y)) i (top .count)) (failed-suited (tookOf s (cmdIn y)) (top .count)), held-in (closePlanAt s y top (k.Unmap i)) E d)
+    close-lawful E s y top k.UnmapAux x h d = (lawful-pick (isDone (cmdIn y .result)) _ _ (fa-suited (tookOf s (cmdIn y)) (top .count)) (failed-suited (tookOf s (cmdIn y)) (top .count)), held-in (closePlanAt s y top k.UnmapAux) E d)
+    close-lawful E s y top k.UnmapFa x h d = (lawful-pick (isDone (cmdIn y .result)) _ _ (stopped-suited (tookOf s (cmdIn y)) (top .count)) (failed-suited (tookOf s (cmdIn y)) (top .count)), held-in (closePlanAt s y top k.UnmapFa) E d)
+    close-lawful E s y top k.Quiesce x h d = (tt, tt)
+    close-lawful E s y top k.Reset x h d = (reset-suited s (resetIn y) (top .count), held-in (closePlanAt s y top k.Reset) E d)
+    close-lawful E s y top (k.FreeLent i) x h d = lent-freed E s h (top .count) i
+    close-lawful E s y top (k.FreeIcm i) x h d = icm-freed E s h (top .count) i
+    close-lawful E s y top k.FreeAux x h d = fa-freed E s h (top .count)
+    close-lawful E s y top k.FreeFa x h d = in-freed E s h (top .count)
+    close-lawful E s y top k.FreeInbox x h d = out-freed E s h (top .count)
+    close-lawful E s y top k.FreeOutbox x h d = given E s h (top .count)
+    close-lawful E s y top k.Release x h d = ((on, tt), d)
+    close-lawful E s y top k.Restore x h d = (tt, d)
 
   -- A CLIENT'S CALL leads to the open session, or on to another task of the call
   module _ (E : Type 0) (so : C) (s : Session) where
@@ -472,130 +505,134 @@ module _ (C : Type 0) where
   client-lawful E so s y top kc.Lend = lend-ended E so s (madeIn y) (top .count)
   client-lawful E so s y top (kc.UndoTo mark i) = frees-pick E (isDone (cmdIn y .result)) _ _ (undo-begins E so (tookOf s (cmdIn y)) mark i top) (tt, tt)
 
-  -- OPENING
-  fail-suited : (s : Session) (y : Refusal) (top : Top) → Lawful (failPlan s y top)
-  unfolding failPlan
-  fail-suited s y top = stop-suited (n.withFailure s y) top
+  module _ (op : P × D) (begins : (x : Task) → Starts x → T x) where
+    on : (x : Task) → Starts x → P × D × T x
+    on x h = (op .0, op .1, begins x h)
 
-  fail-by-suited : (s : Session) (y : CmdResult) (top : Top) → Lawful (failByPlan s y top)
-  unfolding failByPlan
-  fail-by-suited s y top = fail-suited _ _ top
+    -- OPENING
+    fail-suited : (s : Session) (y : Refusal) (top : Top) → Lawful (failPlan s y top)
+    unfolding failPlan
+    fail-suited s y top = stop-suited (op .1) (n.withFailure s y) top
 
-  make-suited : (s : Session) (x : Area) (bytes : ℕ) (top : Top) → Lawful (makePlan s x bytes top)
-  unfolding makePlan
-  make-suited s x bytes top = by-outcome Lawful (pagesFor bytes) _ _ (λ i. tt) (fail-suited s _ top)
+    fail-by-suited : (s : Session) (y : CmdResult) (top : Top) → Lawful (failByPlan s y top)
+    unfolding failByPlan
+    fail-by-suited s y top = fail-suited _ _ top
 
-  func-suited : (s : Session) (top : Top) → Lawful (funcPlan s top)
-  unfolding funcPlan
-  func-suited s top = lawful-pick (eqb (s .info .cap .«num_sys_eqs») 0) _ _ tt tt
+    make-suited : (s : Session) (x : Area) (bytes : ℕ) (top : Top) → Lawful (makePlan s x bytes top)
+    unfolding makePlan
+    make-suited s x bytes top = by-outcome Lawful (pagesFor bytes) _ _ (λ i. on _ tt) (fail-suited s _ top)
 
-  range-suited : (s : Session) (i : ℕ) (top : Top) → Lawful (nextRange s i top)
-  unfolding nextRange
-  range-suited s i top = lawful-pick (ltb i 13) _ _ (make-suited s _ _ top) tt
+    func-suited : (s : Session) (top : Top) → Lawful (funcPlan s top)
+    unfolding funcPlan
+    func-suited s top = lawful-pick (eqb (s .info .cap .«num_sys_eqs») 0) _ _ (on _ tt) (on _ tt)
 
-  mapped-suited : (s : Session) (x : Area) (top : Top) → Lawful (mappedPlan s x top)
-  unfolding mappedPlan
-  mapped-suited s a.Fa top = tt
-  mapped-suited s a.Aux top = make-suited s _ _ top
-  mapped-suited s (a.Range i) top = range-suited s i top
+    range-suited : (s : Session) (i : ℕ) (top : Top) → Lawful (nextRange s i top)
+    unfolding nextRange
+    range-suited s i top = lawful-pick (ltb i 13) _ _ (make-suited s _ _ top) (on _ tt)
 
-  map-suited : (s : Session) (x : Area) (y : Cutter) (top : Top) → Lawful (mapPlan s x y top)
-  unfolding mapPlan
-  map-suited s x y top = lawful-pick (eqb (y .left) 0) _ _ (mapped-suited s x top) tt
+    mapped-suited : (s : Session) (x : Area) (top : Top) → Lawful (mappedPlan s x top)
+    unfolding mappedPlan
+    mapped-suited s a.Fa top = on _ tt
+    mapped-suited s a.Aux top = make-suited s _ _ top
+    mapped-suited s (a.Range i) top = range-suited s i top
 
-  area-suited : (s : Session) (x : Area) (y : Made) (top : Top) → Lawful (areaPlan s x y top)
-  area-suited s x (m.Ready y) top = map-suited _ x _ top
-  area-suited s x (m.Refused y) top = fail-suited s _ top
+    map-suited : (s : Session) (x : Area) (y : Cutter) (top : Top) → Lawful (mapPlan s x y top)
+    unfolding mapPlan
+    map-suited s x y top = lawful-pick (eqb (y .left) 0) _ _ (mapped-suited s x top) (on _ tt)
 
-  layout-suited : (s : Session) (y : Outcome Layout) (top : Top) → Lawful (layoutPlan s y top)
-  unfolding layoutPlan
-  layout-suited s (value y) top = tt
-  layout-suited s (refused i vs) top = fail-suited s _ top
+    area-suited : (s : Session) (x : Area) (y : Made) (top : Top) → Lawful (areaPlan s x y top)
+    area-suited s x (m.Ready y) top = map-suited _ x _ top
+    area-suited s x (m.Refused y) top = fail-suited s _ top
 
-  port-suited : (s : Session) (i : ℕ) (top : Top) → Lawful (portPlan s i top)
-  unfolding portPlan
-  port-suited s i top = lawful-pick (ltb i (portsOf (s .info))) _ _ tt (layout-suited s (profileOf (s .info .cap)) top)
+    layout-suited : (s : Session) (y : Outcome Layout) (top : Top) → Lawful (layoutPlan s y top)
+    unfolding layoutPlan
+    layout-suited s (value y) top = on _ tt
+    layout-suited s (refused i vs) top = fail-suited s _ top
 
-  fw-suited : (s : Session) (y : Outcome FwInfo) (z : FwInfo) (top : Top) → Lawful (fwReplied s y z top)
-  unfolding fwReplied
-  fw-suited s (value y) z top = make-suited _ a.Fa _ top
-  fw-suited s (refused i vs) z top = fail-suited _ _ top
+    port-suited : (s : Session) (i : ℕ) (top : Top) → Lawful (portPlan s i top)
+    unfolding portPlan
+    port-suited s i top = lawful-pick (ltb i (portsOf (s .info))) _ _ (on _ tt) (layout-suited s (profileOf (s .info .cap)) top)
 
-  cap-suited : (s : Session) (y : Outcome DevCap) (top : Top) → Lawful (capReplied s y top)
-  unfolding capReplied
-  cap-suited s (value y) top = port-suited _ 0 top
-  cap-suited s (refused i vs) top = fail-suited s _ top
+    fw-suited : (s : Session) (y : Outcome FwInfo) (z : FwInfo) (top : Top) → Lawful (fwReplied s y z top)
+    unfolding fwReplied
+    fw-suited s (value y) z top = make-suited _ a.Fa _ top
+    fw-suited s (refused i vs) z top = fail-suited _ _ top
 
-  replied-suited : (s : Session) (i : ℕ) (y : Outcome PortInfo) (top : Top) → Lawful (portReplied s i y top)
-  unfolding portReplied
-  replied-suited s i (value y) top = port-suited _ i top
-  replied-suited s i (refused j vs) top = fail-suited s _ top
+    cap-suited : (s : Session) (y : Outcome DevCap) (top : Top) → Lawful (capReplied s y top)
+    unfolding capReplied
+    cap-suited s (value y) top = port-suited _ 0 top
+    cap-suited s (refused i vs) top = fail-suited s _ top
 
-  func-replied : (s : Session) (y : Outcome FuncInfo) (top : Top) → Lawful (funcReplied s y top)
-  unfolding funcReplied
-  func-replied s (value y) top = tt
-  func-replied s (refused i vs) top = fail-suited s _ top
+    replied-suited : (s : Session) (i : ℕ) (y : Outcome PortInfo) (top : Top) → Lawful (portReplied s i y top)
+    unfolding portReplied
+    replied-suited s i (value y) top = port-suited _ i top
+    replied-suited s i (refused j vs) top = fail-suited s _ top
 
-  boot-suited : (s : Session) (y : End) (out : List ℕ) (top : Top) (st : Boot) → Lawful (bootPlanAt s y out top st)
-  boot-suited s y out top b.QueryFw = lawful-pick (isDone (cmdIn y .result)) _ _ (fw-suited _ (queryFwOf out (s .info .uar .index)) _ top) (fail-suited _ _ top)
-  boot-suited s y out top (b.Make x) = area-suited s x (madeIn y) top
-  boot-suited s y out top (b.Map x z) = lawful-pick (isDone (cmdIn y .result)) _ _ (map-suited _ x z top) (fail-by-suited _ _ top)
-  boot-suited s y out top b.RunFw = lawful-pick (isDone (cmdIn y .result)) _ _ tt (fail-by-suited _ _ top)
-  boot-suited s y out top b.ModStat = lawful-pick (needsReset (cmdIn y .result)) _ _ (fail-by-suited _ _ top) tt
-  boot-suited s y out top b.DevCap = lawful-pick (isDone (cmdIn y .result)) _ _ (cap-suited _ (capabilityOf out (s .info .uar .size)) top) (fail-by-suited _ _ top)
-  boot-suited s y out top (b.Port i) = lawful-pick (isDone (cmdIn y .result)) _ _ (replied-suited _ i (queryPortOf out i) top) (fail-by-suited _ _ top)
-  boot-suited s y out top b.IcmSize = lawful-pick (isDone (cmdIn y .result)) _ _ (make-suited _ a.Aux _ top) (fail-by-suited _ _ top)
-  boot-suited s y out top b.InitHca = lawful-pick (isDone (cmdIn y .result)) _ _ (func-suited _ top) (fail-by-suited _ _ top)
-  boot-suited s y out top b.Func = lawful-pick (isDone (cmdIn y .result)) _ _ (func-replied _ (queryFuncOf out) top) (fail-by-suited _ _ top)
-  boot-suited s y out top b.Adapter = tt
+    func-replied : (s : Session) (y : Outcome FuncInfo) (top : Top) → Lawful (funcReplied s y top)
+    unfolding funcReplied
+    func-replied s (value y) top = on _ tt
+    func-replied s (refused i vs) top = fail-suited s _ top
 
-  attr-suited : (s : Session) (y : Attributes) (top : Top) → Lawful (n.attrPlan s y top)
-  attr-suited s (at.Enabled v) top = tt
-  attr-suited s at.Refused top = tt
+    boot-suited : (s : Session) (y : End) (out : List ℕ) (top : Top) (st : Boot) → Lawful (bootPlanAt s y out top st)
+    boot-suited s y out top b.QueryFw = lawful-pick (isDone (cmdIn y .result)) _ _ (fw-suited _ (queryFwOf out (s .info .uar .index)) _ top) (fail-suited _ _ top)
+    boot-suited s y out top (b.Make x) = area-suited s x (madeIn y) top
+    boot-suited s y out top (b.Map x z) = lawful-pick (isDone (cmdIn y .result)) _ _ (map-suited _ x z top) (fail-by-suited _ _ top)
+    boot-suited s y out top b.RunFw = lawful-pick (isDone (cmdIn y .result)) _ _ (on _ tt) (fail-by-suited _ _ top)
+    boot-suited s y out top b.ModStat = lawful-pick (needsReset (cmdIn y .result)) _ _ (fail-by-suited _ _ top) (on _ tt)
+    boot-suited s y out top b.DevCap = lawful-pick (isDone (cmdIn y .result)) _ _ (cap-suited _ (capabilityOf out (s .info .uar .size)) top) (fail-by-suited _ _ top)
+    boot-suited s y out top (b.Port i) = lawful-pick (isDone (cmdIn y .result)) _ _ (replied-suited _ i (queryPortOf out i) top) (fail-by-suited _ _ top)
+    boot-suited s y out top b.IcmSize = lawful-pick (isDone (cmdIn y .result)) _ _ (make-suited _ a.Aux _ top) (fail-by-suited _ _ top)
+    boot-suited s y out top b.InitHca = lawful-pick (isDone (cmdIn y .result)) _ _ (func-suited _ top) (fail-by-suited _ _ top)
+    boot-suited s y out top b.Func = lawful-pick (isDone (cmdIn y .result)) _ _ (func-replied _ (queryFuncOf out) top) (fail-by-suited _ _ top)
+    boot-suited s y out top b.Adapter = tt
 
-  claim-suited : (s : Session) (y : Claimed) (top : Top) → Lawful (n.claimPlan s y top)
-  claim-suited s l.Good top = tt
-  claim-suited s l.Refused top = tt
+    attr-suited : (s : Session) (y : Attributes) (top : Top) → Lawful (n.attrPlan s y top)
+    attr-suited s (at.Enabled v) top = on _ tt
+    attr-suited s at.Refused top = tt
 
-  bar-suited : (s : Session) (y : Found) (top : Top) → Lawful (n.barPlan s y top)
-  bar-suited s (u.Bar y) top = tt
-  bar-suited s u.Refused top = tt
+    claim-suited : (s : Session) (y : Claimed) (top : Top) → Lawful (n.claimPlan s y top)
+    claim-suited s l.Good top = on _ tt
+    claim-suited s l.Refused top = (op .1, tt)
 
-  in-suited : (s : Session) (y : Made) (top : Top) → Lawful (n.inboxPlan s y top)
-  in-suited s (m.Ready y) top = tt
-  in-suited s (m.Refused y) top = tt
+    bar-suited : (s : Session) (y : Found) (top : Top) → Lawful (n.barPlan s y top)
+    bar-suited s (u.Bar y) top = on _ tt
+    bar-suited s u.Refused top = (op .1, tt)
 
-  gives-suited : (x : Hold) (y : Buffer → Planned) (z : Planned) → ((d : Buffer) → Lawful (y d)) → Lawful z → Lawful (onHold x y z)
-  gives-suited o.Absent y z h d = d
-  gives-suited (o.Held x) y z h d = h x
+    in-suited : (s : Session) (y : Made) (top : Top) → Lawful (n.inboxPlan s y top)
+    in-suited s (m.Ready y) top = on _ tt
+    in-suited s (m.Refused y) top = (op .1, tt)
 
-  out-suited : (s : Session) (y : Made) (top : Top) → Lawful (n.outboxPlan s y top)
-  out-suited s (m.Ready y) top = tt
-  out-suited s (m.Refused y) top = gives-suited (s .books .held .inbox) _ _ (λ d. tt) tt
+    gives-suited : (x : Hold) (y : Buffer → Planned) (z : Planned) → ((d : Buffer) → Lawful (y d)) → Lawful z → Lawful (onHold x y z)
+    gives-suited o.Absent y z h d = d
+    gives-suited (o.Held x) y z h d = h x
 
-  prepare-suited : (s : Session) (y : End) (top : Top) (st : Prepare) → Lawful (preparePlanAt s y top st)
-  prepare-suited s y top p.Attributes = attr-suited s (attrIn y) top
-  prepare-suited s y top p.Claim = claim-suited s (claimIn y) top
-  prepare-suited s y top p.Reset = lawful-pick (isGood (resetIn y)) _ _ tt tt
-  prepare-suited s y top p.Bar = bar-suited s (barIn y) top
-  prepare-suited s y top p.Inbox = in-suited s (madeIn y) top
-  prepare-suited s y top p.Outbox = out-suited s (madeIn y) top
-  prepare-suited s y top (p.GiveInbox z) = tt
-  prepare-suited s y top p.Look = tt
+    out-suited : (s : Session) (y : Made) (top : Top) → Lawful (n.outboxPlan s y top)
+    out-suited s (m.Ready y) top = on _ tt
+    out-suited s (m.Refused y) top = gives-suited (s .books .held .inbox) _ _ (λ d. (op .0, op .1, tt)) (op .1, tt)
+
+    prepare-suited : (s : Session) (y : End) (top : Top) (st : Prepare) → Lawful (preparePlanAt s y top st)
+    prepare-suited s y top p.Attributes = attr-suited s (attrIn y) top
+    prepare-suited s y top p.Claim = claim-suited s (claimIn y) top
+    prepare-suited s y top p.Reset = lawful-pick (isGood (resetIn y)) _ _ (on _ tt) (op .1, tt)
+    prepare-suited s y top p.Bar = bar-suited s (barIn y) top
+    prepare-suited s y top p.Inbox = in-suited s (madeIn y) top
+    prepare-suited s y top p.Outbox = out-suited s (madeIn y) top
+    prepare-suited s y top (p.GiveInbox z) = (op .1, tt)
+    prepare-suited s y top p.Look = on _ tt
 
   -- WHAT IS WRITTEN before the next question changes no stage but a page list's, which posts a command
-  lists-boot : (x : Work) (d : Books) (i : Info) (f : Failure) (z : Closing) (y : Listed) (st : Boot) → Suited (listsBoot (session (g.Boot st) x d i f z) y st)
-  lists-boot x d i f z y b.QueryFw = tt
-  lists-boot x d i f z y (b.Make v) = tt
-  lists-boot x d i f z y (b.Map v r) = tt
-  lists-boot x d i f z y b.RunFw = tt
-  lists-boot x d i f z y b.ModStat = tt
-  lists-boot x d i f z y b.DevCap = tt
-  lists-boot x d i f z y (b.Port v) = tt
-  lists-boot x d i f z y b.IcmSize = tt
-  lists-boot x d i f z y b.InitHca = tt
-  lists-boot x d i f z y b.Func = tt
-  lists-boot x d i f z y b.Adapter = tt
+  lists-boot : ((x y : Task) → Starts y → T x → T y) → (x : Work) (d : Books) (i : Info) (f : Failure) (z : Closing) (y : Listed) (st : Boot) → P × D × T (x .task) → Suited (listsBoot (session (g.Boot st) x d i f z) y st)
+  lists-boot again x d i f z y b.QueryFw op = op
+  lists-boot again x d i f z y (b.Make v) op = op
+  lists-boot again x d i f z y (b.Map v r) op = (op .0, op .1, again (x .task) _ tt (op .2))
+  lists-boot again x d i f z y b.RunFw op = op
+  lists-boot again x d i f z y b.ModStat op = op
+  lists-boot again x d i f z y b.DevCap op = op
+  lists-boot again x d i f z y (b.Port v) op = op
+  lists-boot again x d i f z y b.IcmSize op = op
+  lists-boot again x d i f z y b.InitHca op = op
+  lists-boot again x d i f z y b.Func op = op
+  lists-boot again x d i f z y b.Adapter op = op
 
   -- one more fact that goes with it, E: it stands where it stood
   abbrev pub Both : Type 0 → Session → Type 0
@@ -614,125 +651,109 @@ module _ (C : Type 0) where
   lists-held E x d i f z y b.Func = tt
   lists-held E x d i f z y b.Adapter = tt
 
-  lists-both : (E : Type 0) (st : Stage) (x : Work) (d : Books) (i : Info) (f : Failure) (z : Closing) (y : Listed) → Both E (session st x d i f z) → Both E (listsAt (session st x d i f z) y st)
-  lists-both E g.Fresh x d i f z y h = h
-  lists-both E (g.Open v) x d i f z y h = h
-  lists-both E g.Ended x d i f z y h = h
-  lists-both E (g.Prepare v) x d i f z y h = h
-  lists-both E (g.Boot v) x d i f z y h = (lists-boot x d i f z y v, lists-held E x d i f z y v)
-  lists-both E (g.Client v) x d i f z y h = h
-  lists-both E (g.Close v) x d i f z y h = h
+  module _ (again : (x y : Task) → Starts y → T x → T y) where
+    lists-both : (E : Type 0) (st : Stage) (x : Work) (d : Books) (i : Info) (f : Failure) (z : Closing) (y : Listed) → Both E (session st x d i f z) → Both E (listsAt (session st x d i f z) y st)
+    lists-both E g.Fresh x d i f z y h = h
+    lists-both E (g.Open v) x d i f z y h = h
+    lists-both E g.Ended x d i f z y h = h
+    lists-both E (g.Prepare v) x d i f z y h = h
+    lists-both E (g.Boot v) x d i f z y h = (lists-boot again x d i f z y v (h .0), lists-held E x d i f z y v)
+    lists-both E (g.Client v) x d i f z y h = h
+    lists-both E (g.Close v) x d i f z y h = h
 
-  pick-both : (E : Type 0) (x : Bool) (y z : Session) → Both E y → Both E z → Both E (pick x y z)
-  pick-both E true y z h d = h
-  pick-both E false y z h d = d
+    pick-both : (E : Type 0) (x : Bool) (y z : Session) → Both E y → Both E z → Both E (pick x y z)
+    pick-both E true y z h d = h
+    pick-both E false y z h d = d
 
-  filled-both : (E : Type 0) (x : Fill) (s : Session) (i : List ℕ) → Both E s → Both E (filled x s i)
-  filled-both E w.Nothing s i h = h
-  filled-both E w.Outbox s i h = h
-  filled-both E (w.List v) s i h =
-      pick-both E (eqb (length i) 4096) (lists s (listedOf 63 256 v)) s (lists-both E (s .stage) (s .work) (s .books) (s .info) (s .failure) (s .closing) (listedOf 63 256 v) h) h
-  filled-both E w.ModStat s i h = h
-  filled-both E w.InitHca s i h = h
+    filled-both : (E : Type 0) (x : Fill) (s : Session) (i : List ℕ) → Both E s → Both E (filled x s i)
+    filled-both E w.Nothing s i h = h
+    filled-both E w.Outbox s i h = h
+    filled-both E (w.List v) s i h =
+        pick-both E (eqb (length i) 4096) (lists s (listedOf 63 256 v)) s (lists-both E (s .stage) (s .work) (s .books) (s .info) (s .failure) (s .closing) (listedOf 63 256 v) h) h
+    filled-both E w.ModStat s i h = h
+    filled-both E w.InitHca s i h = h
 
-  module _ (E : Type 0) (d : Books) (j : Info) (f : Failure) (z : Closing) (v : Work) (r : Answer) (bytes i out : List ℕ) (top : Top) where
-    abbrev was : Stage → Session
-    was st = session st v d j f z
+    module _ (E : Type 0) (d : Books) (j : Info) (f : Failure) (z : Closing) (v : Work) (r : Answer) (bytes i out : List ℕ) (top : Top) where
+      abbrev was : Stage → Session
+      was st = session st v d j f z
 
-    ended : (st : Stage) (x : Work) (y : End) → Frees E (planOf (withWork (was st) x) y out top) → Both E (begunOf (planOf (withWork (was st) x) y out top) i .session)
-    ended st x y h = filled-both E (planOf (withWork (was st) x) y out top .fill) (planOf (withWork (was st) x) y out top .session) i h
+      ended : (st : Stage) (x : Work) (y : End) → Frees E (planOf (withWork (was st) x) y out top) → Both E (begunOf (planOf (withWork (was st) x) y out top) i .session)
+      ended st x y h = filled-both E (planOf (withWork (was st) x) y out top .fill) (planOf (withWork (was st) x) y out top .session) i h
 
-    by-prepare : (st : Prepare) (x : Work) (n : Ending) → E → Both E (stepTurn (was (g.Prepare st)) r x i out top n .session)
-    unfolding preparePlan
-    by-prepare st x e.Going h = (tt, tt)
-    by-prepare st x (e.Ended y) h =
-        ended (g.Prepare st) x y (prepare-suited (withWork (was (g.Prepare st)) x) y top st, held-in (preparePlanAt (withWork (was (g.Prepare st)) x) y top st) E h)
+      module _ (N : Type 0) (so : N → E) (begins : N → (x : Task) → Starts x → T x) where
+        -- a task of an opening has ended before its closing begins
+        prepared : (st : Prepare) (x : Work) (y : End) → P × D → N → Both E (stepTurn (was (g.Prepare st)) r x i out top (e.Ended y) .session)
+        unfolding preparePlan
+        prepared st x y op h =
+            ended (g.Prepare st) x y (prepare-suited op (begins h) (withWork (was (g.Prepare st)) x) y top st, held-in (preparePlanAt (withWork (was (g.Prepare st)) x) y top st) E (so h))
 
-    by-boot : (st : Boot) (x : Work) (n : Ending) → E → Both E (stepTurn (was (g.Boot st)) r x i out top n .session)
-    unfolding bootPlan
-    by-boot st x e.Going h = (tt, tt)
-    by-boot st x (e.Ended y) h =
-        ended (g.Boot st) x y (boot-suited (withWork (was (g.Boot st)) x) y out top st, held-in (bootPlanAt (withWork (was (g.Boot st)) x) y out top st) E h)
+        by-prepare : (st : Prepare) (x : Work) (n : Ending) → P × D → (N → T (x .task)) → UnlessGiven st N → Both E (stepTurn (was (g.Prepare st)) r x i out top n .session)
+        unfolding preparePlan
+        by-prepare p.Attributes x e.Going op f h = ((op .0, op .1, f h), tt)
+        by-prepare p.Claim x e.Going op f h = ((op .0, op .1, f h), tt)
+        by-prepare p.Reset x e.Going op f h = ((op .0, op .1, f h), tt)
+        by-prepare p.Bar x e.Going op f h = ((op .0, op .1, f h), tt)
+        by-prepare p.Inbox x e.Going op f h = ((op .0, op .1, f h), tt)
+        by-prepare p.Outbox x e.Going op f h = ((op .0, op .1, f h), tt)
+        by-prepare (p.GiveInbox v) x e.Going op f h = ((op .0, op .1, tt), tt)
+        by-prepare p.Look x e.Going op f h = ((op .0, op .1, f h), tt)
+        by-prepare p.Attributes x (e.Ended y) op f h = prepared p.Attributes x y op h
+        by-prepare p.Claim x (e.Ended y) op f h = prepared p.Claim x y op h
+        by-prepare p.Reset x (e.Ended y) op f h = prepared p.Reset x y op h
+        by-prepare p.Bar x (e.Ended y) op f h = prepared p.Bar x y op h
+        by-prepare p.Inbox x (e.Ended y) op f h = prepared p.Inbox x y op h
+        by-prepare p.Outbox x (e.Ended y) op f h = prepared p.Outbox x y op h
+        by-prepare (p.GiveInbox v) x (e.Ended y) op f h = ended (g.Prepare (p.GiveInbox v)) x y ((op .1, tt), λ q. absurd (clean-differs q))
+        by-prepare p.Look x (e.Ended y) op f h = prepared p.Look x y op h
 
-    by-client : (st : Client) (x : Work) (n : Ending) → C → Both E (stepTurn (was (g.Client st)) r x i out top n .session)
-    unfolding clientPlan
-    by-client st x e.Going h = (h, tt)
-    by-client st x (e.Ended y) h = ended (g.Client st) x y (client-lawful E h (withWork (was (g.Client st)) x) y top st)
+        by-boot : (st : Boot) (x : Work) (n : Ending) → P × D → (N → T (x .task)) → N → Both E (stepTurn (was (g.Boot st)) r x i out top n .session)
+        unfolding bootPlan
+        by-boot st x e.Going op f h = ((op .0, op .1, f h), tt)
+        by-boot st x (e.Ended y) op f h =
+            ended (g.Boot st) x y (boot-suited op (begins h) (withWork (was (g.Boot st)) x) y out top st, held-in (bootPlanAt (withWork (was (g.Boot st)) x) y out top st) E (so h))
 
-    by-close : (st : Close) (x : Work) (n : Ending) → FitClose st z (v .task) → (NoHost (v .task) → NoHost (x .task)) → HeldClose st z E → Both E (stepTurn (was (g.Close st)) r x i out top n .session)
-    unfolding closePlan
-    by-close st x e.Going q m h = (fit-going st z (v .task) (x .task) m q, h)
-    by-close st x (e.Ended y) q m h = ended (g.Close st) x y (close-lawful E (withWork (was (g.Close st)) x) y top st (v .task) q h)
+      by-client : (st : Client) (x : Work) (n : Ending) → C → Both E (stepTurn (was (g.Client st)) r x i out top n .session)
+      unfolding clientPlan
+      by-client st x e.Going h = (h, tt)
+      by-client st x (e.Ended y) h = ended (g.Client st) x y (client-lawful E h (withWork (was (g.Client st)) x) y top st)
 
-    by-stage : (st : Stage) → Fit st z (v .task) → Known st z E → Both E (stepOf (was st) r bytes i out top .session)
-    unfolding stepOf
-    by-stage g.Fresh q h = absurd h
-    by-stage (g.Open y) q h = absurd h
-    by-stage g.Ended q h = absurd h
-    by-stage (g.Prepare st) q h = by-prepare st (workStepOf v r bytes .work) (workStepOf v r bytes .ending) h
-    by-stage (g.Boot st) q h = by-boot st (workStepOf v r bytes .work) (workStepOf v r bytes .ending) h
-    by-stage (g.Client st) q h = by-client st (workStepOf v r bytes .work) (workStepOf v r bytes .ending) q
-    by-stage (g.Close st) q h = by-close st (workStepOf v r bytes .work) (workStepOf v r bytes .ending) q (λ m. task-going v r bytes (v .task) m) h
+      by-close : (st : Close) (x : Work) (n : Ending) → D × FitClose st z (v .task) → (NoHost (v .task) → NoHost (x .task)) → HeldClose st z E → Both E (stepTurn (was (g.Close st)) r x i out top n .session)
+      unfolding closePlan
+      by-close st x e.Going q m h = ((q .0, fit-going st z (v .task) (x .task) m (q .1)), h)
+      by-close st x (e.Ended y) q m h = ended (g.Close st) x y (close-lawful (q .0) E (withWork (was (g.Close st)) x) y top st (v .task) (q .1) h)
 
-  pub step-both : (E : Type 0) (s : Session) (r : Answer) (bytes i out : List ℕ) (top : Top) → Suited s → Known (s .stage) (s .closing) E → Both E (stepOf s r bytes i out top .session)
-  step-both E s r bytes i out top q h = by-stage E (s .books) (s .info) (s .failure) (s .closing) (s .work) r bytes i out top (s .stage) q h
+      by-stage : (N : Type 0) → (N → E) → (N → (x : Task) → Starts x → T x) → (N → T (workStepOf v r bytes .work .task)) → (S : Task → Type 0) (st : Stage) → Fit C P D S st z (v .task)
+          → Known st z N E → Both E (stepOf (was st) r bytes i out top .session)
+      unfolding stepOf
+      by-stage N so begins f S g.Fresh q h = absurd h
+      by-stage N so begins f S (g.Open y) q h = absurd h
+      by-stage N so begins f S g.Ended q h = absurd h
+      by-stage N so begins f S (g.Prepare st) q h = by-prepare N so begins st (workStepOf v r bytes .work) (workStepOf v r bytes .ending) (q .0, q .1) f h
+      by-stage N so begins f S (g.Boot st) q h = by-boot N so begins st (workStepOf v r bytes .work) (workStepOf v r bytes .ending) (q .0, q .1) f h
+      by-stage N so begins f S (g.Client st) q h = by-client st (workStepOf v r bytes .work) (workStepOf v r bytes .ending) q
+      by-stage N so begins f S (g.Close st) q h = by-close st (workStepOf v r bytes .work) (workStepOf v r bytes .ending) q (λ m. task-going v r bytes (v .task) m) h
 
-  -- A CALL BEGINS. C is needed of a client's call alone
-  abbrev pub Needed : Call → Type 0
-  Needed kn.Open = Unit {0}
-  Needed (kn.Command y) = C
-  Needed (kn.Lend bytes) = C
-  Needed (kn.UndoTo mark y) = C
-  Needed kn.Quiesce = Unit {0}
-  Needed kn.Close = Unit {0}
+    pub step-both : (N E : Type 0) → (N → E) → (N → (x : Task) → Starts x → T x) → (s : Session) (r : Answer) (bytes i out : List ℕ) (top : Top) → (N → T (workStepOf (s .work) r bytes .work .task)) → (S : Task → Type 0)
+        → Fit C P D S (s .stage) (s .closing) (s .work .task) → Known (s .stage) (s .closing) N E → Both E (stepOf s r bytes i out top .session)
+    step-both N E so begins s r bytes i out top f S q h = by-stage E (s .books) (s .info) (s .failure) (s .closing) (s .work) r bytes i out top N so begins f S (s .stage) q h
 
-  needed-by : (y : Call) → C → Needed y
-  needed-by kn.Open h = tt
-  needed-by (kn.Command y) h = h
-  needed-by (kn.Lend bytes) h = h
-  needed-by (kn.UndoTo mark y) h = h
-  needed-by kn.Quiesce h = tt
-  needed-by kn.Close h = tt
+    -- A CALL BEGINS: what is needed of it
+    abbrev pub Needed : Call → Type 0
+    Needed kn.Open = P × D × ((x : Task) → Starts x → T x)
+    Needed (kn.Command y) = C
+    Needed (kn.Lend bytes) = C
+    Needed (kn.UndoTo mark y) = C
+    Needed kn.Quiesce = D
+    Needed kn.Close = D
 
-  begun-frees : (E : Type 0) (y : Call) (s : Session) (top : Top) → Needed y → E → Frees E (planFor s y top)
-  begun-frees E kn.Open s top h d = (tt, tt)
-  begun-frees E (kn.Command y) s top h d = command-begins E h s y (top .count)
-  begun-frees E (kn.Lend bytes) s top h d = lend-begins E h s bytes (top .count)
-  begun-frees E (kn.UndoTo mark y) s top h d = undo-begins E h s mark UNDOS top
-  begun-frees E kn.Quiesce s top h d = (quiesce-suited s top, held-in (quiescePlan s top) E d)
-  begun-frees E kn.Close s top h d = (stop-suited (withoutFailure s) top, held-in (stopPlan (withoutFailure s) top) E d)
+    begun-frees : (E : Type 0) (y : Call) (s : Session) (top : Top) → Needed y → E → Frees E (planFor s y top)
+    begun-frees E kn.Open s top h d = ((h .0, h .1, h .2 _ tt), tt)
+    begun-frees E (kn.Command y) s top h d = command-begins E h s y (top .count)
+    begun-frees E (kn.Lend bytes) s top h d = lend-begins E h s bytes (top .count)
+    begun-frees E (kn.UndoTo mark y) s top h d = undo-begins E h s mark UNDOS top
+    begun-frees E kn.Quiesce s top h d = (quiesce-suited h s top, held-in (quiescePlan s top) E d)
+    begun-frees E kn.Close s top h d = (stop-suited h (withoutFailure s) top, held-in (stopPlan (withoutFailure s) top) E d)
 
-  pub begun-needs : (E : Type 0) (y : Call) (s : Session) (input i : List ℕ) (top : Top) → Needed y → E → Both E (begunTurn s y input i top .session)
-  unfolding begunTurn
-  begun-needs E y s input i top h d = filled-both E (planFor s y top .fill) (planFor s y top .session) (readyIn y input i) (begun-frees E y s top h d)
-
-  pub begun-both : (E : Type 0) (y : Call) (s : Session) (input i : List ℕ) (top : Top) → C → E → Both E (begunTurn s y input i top .session)
-  begun-both E y s input i top h d = begun-needs E y s input i top (needed-by y h) d
-
-abbrev pub NotClient : Stage → Type 0
-NotClient g.Fresh = Unit {0}
-NotClient (g.Open y) = Unit {0}
-NotClient g.Ended = Unit {0}
-NotClient (g.Prepare y) = Unit {0}
-NotClient (g.Boot y) = Unit {0}
-NotClient (g.Client y) = ⊥
-NotClient (g.Close y) = Unit {0}
-
--- where no client's call is under way, C may be any D
-pub fit-other : (C D : Type 0) (st : Stage) (z : Closing) (x : Task) → NotClient st → Fit C st z x → Fit D st z x
-fit-other C D g.Fresh z x n h = h
-fit-other C D (g.Open y) z x n h = h
-fit-other C D g.Ended z x n h = h
-fit-other C D (g.Prepare y) z x n h = h
-fit-other C D (g.Boot y) z x n h = h
-fit-other C D (g.Client y) z x n h = absurd n
-fit-other C D (g.Close y) z x n h = h
-
-pub not-client : (st : Stage) (z : Closing) (x : Task) → Fit ⊥ st z x → NotClient st
-not-client g.Fresh z x h = tt
-not-client (g.Open y) z x h = tt
-not-client g.Ended z x h = tt
-not-client (g.Prepare y) z x h = tt
-not-client (g.Boot y) z x h = tt
-not-client (g.Client y) z x h = h
-not-client (g.Close y) z x h = tt
+    pub begun-both : (E : Type 0) (y : Call) (s : Session) (input i : List ℕ) (top : Top) → Needed y → E → Both E (begunTurn s y input i top .session)
+    unfolding begunTurn
+    begun-both E y s input i top h d = filled-both E (planFor s y top .fill) (planFor s y top .session) (readyIn y input i) (begun-frees E y s top h d)

@@ -1,5 +1,6 @@
 -- What the world is asked is what the course asks; and a task that asks nothing of the host leaves it as it is.
 use Prim.Native.Nat.{ℕ}
+use mathlib.Core.Bool.{false}
 use mathlib.Core.List.{List}
 use mathlib.Core.Option.{some, Option·some-injective, Option·none-ne-some}
 use mathlib.Core.Path.{_≡_, refl, sym, _∙_, ap, subst}
@@ -33,7 +34,7 @@ use Rattle.work.specs.Work.{taskAsks}
 use Rattle.work.specs.declared.Task.{Task}
 use Rattle.work.specs.declared.Task.the-variants as t
 use Rattle.card.specs.Card.{Host, HostStep, World, Allowed}
-use Rattle.demand.specs.Events.{asked}
+use Rattle.demand.specs.Events.{asked, asksBack}
 use Rattle.demand.proofs.Plans.{NoHost, IsRest}
 
 -- an allowed question is asked as it is
@@ -151,26 +152,26 @@ task-card r f t.Look h = tt
 task-card r f (t.Cmd x) h = cmd-card (x .phase) (x .post) (x .toggle) (x .stalls) (x .catas)
 task-card r f (t.Part x) h = part-card x
 
--- such a question leaves the host
-abbrev Leaves : Host → Host → Ask → Type 0
-Leaves k l y = (r : Reply y) → HostStep k y r l → l ≡ k
+-- such a question leaves the host, and asks nothing back
+abbrev pub Leaves : Host → Host → Ask → Type 0
+Leaves k l y = (asksBack k y ≡ false) × ((r : Reply y) → HostStep k y r l → l ≡ k)
 
 card-leaves : (x : Question) (i : List ℕ) (y : Ask) (k l : Host) → OfCard x → asked x i ≡ some y → Leaves k l y
-card-leaves (q.ConfigRead16 o) i y k l h e = subst (Leaves k l) (Option·some-injective (configRead16 o) y e) (λ r s. s)
-card-leaves (q.ConfigRead32 o) i y k l h e = subst (Leaves k l) (Option·some-injective (configRead32 o) y e) (λ r s. s)
-card-leaves (q.ConfigWrite16 o v) i y k l h e = subst (Leaves k l) (Option·some-injective (configWrite16 o v) y e) (λ r s. s)
-card-leaves (q.ConfigWrite32 o v) i y k l h e = subst (Leaves k l) (Option·some-injective (configWrite32 o v) y e) (λ r s. s)
-card-leaves (q.RegRead b o) i y k l h e = subst (Leaves k l) (Option·some-injective (read b o) y e) (λ r s. s)
-card-leaves (q.RegWrite b o v) i y k l h e = subst (Leaves k l) (Option·some-injective _ y e) (λ r s. s)
-card-leaves (q.Attributes o v) i y k l h e = subst (Leaves k l) (Option·some-injective (attributes o v) y e) (λ r s. s)
-card-leaves (q.Resource b) i y k l h e = subst (Leaves k l) (Option·some-injective (resource b) y e) (λ r s. s)
-card-leaves (q.Stall u) i y k l h e = subst (Leaves k l) (Option·some-injective (stall u) y e) (λ r s. s)
+card-leaves (q.ConfigRead16 o) i y k l h e = subst (Leaves k l) (Option·some-injective (configRead16 o) y e) (refl, λ r s. s)
+card-leaves (q.ConfigRead32 o) i y k l h e = subst (Leaves k l) (Option·some-injective (configRead32 o) y e) (refl, λ r s. s)
+card-leaves (q.ConfigWrite16 o v) i y k l h e = subst (Leaves k l) (Option·some-injective (configWrite16 o v) y e) (refl, λ r s. s)
+card-leaves (q.ConfigWrite32 o v) i y k l h e = subst (Leaves k l) (Option·some-injective (configWrite32 o v) y e) (refl, λ r s. s)
+card-leaves (q.RegRead b o) i y k l h e = subst (Leaves k l) (Option·some-injective (read b o) y e) (refl, λ r s. s)
+card-leaves (q.RegWrite b o v) i y k l h e = subst (Leaves k l) (Option·some-injective _ y e) (refl, λ r s. s)
+card-leaves (q.Attributes o v) i y k l h e = subst (Leaves k l) (Option·some-injective (attributes o v) y e) (refl, λ r s. s)
+card-leaves (q.Resource b) i y k l h e = subst (Leaves k l) (Option·some-injective (resource b) y e) (refl, λ r s. s)
+card-leaves (q.Stall u) i y k l h e = subst (Leaves k l) (Option·some-injective (stall u) y e) (refl, λ r s. s)
 card-leaves (q.Allocate n) i y k l h e = absurd h
 card-leaves (q.Map b n) i y k l h e = absurd h
 card-leaves (q.Unmap b) i y k l h e = absurd h
 card-leaves (q.Free b n) i y k l h e = absurd h
-card-leaves q.Fence i y k l h e = subst (Leaves k l) (Option·some-injective (fence i) y e) (λ r s. s)
+card-leaves q.Fence i y k l h e = subst (Leaves k l) (Option·some-injective (fence i) y e) (refl, λ r s. s)
 card-leaves q.Finished i y k l h e = absurd (Option·none-ne-some y e)
 
-pub task-leaves : (r : Reset) (f : FindBar) (x : Task) (i : List ℕ) (y : Ask) (z : Reply y) (k l : Host) → NoHost x → asked (taskAsks r f x) i ≡ some y → HostStep k y z l → l ≡ k
-task-leaves r f x i y z k l h e s = card-leaves (taskAsks r f x) i y k l (task-card r f x h) e z s
+pub task-leaves : (r : Reset) (f : FindBar) (x : Task) (i : List ℕ) (y : Ask) (k l : Host) → NoHost x → asked (taskAsks r f x) i ≡ some y → Leaves k l y
+task-leaves r f x i y k l h e = card-leaves (taskAsks r f x) i y k l (task-card r f x h) e

@@ -31,11 +31,11 @@ pub rests-at : (w v : World) → v .host ≡ w .host → v ≡ at w (v .card)
 rests-at w v e = λ i. record { card = v .card; host = e i }
 
 clear-settled : (w : World) (d : Card) (h : ℕ) → Settles (w .card) d → Clear w h → Clear (at w d) h
-clear-settled w d h s x = record { hold = x .hold; handed = x .handed; unused = λ y z u. x .unused y z (settled-uses (w .card) d s y u) }
+clear-settled w d h s x = record { hold = x .hold; handed = x .handed; own = x .own; unused = λ y z u. x .unused y z (settled-uses (w .card) d s y u) }
 
-posts-settled : (c d : Card) (v : ℕ) → Settles c d → Posts c v → Posts d v
-posts-settled c d v same x = x
-posts-settled c d v (ends p s e) x = absurd (Option·none-ne-some p (sym (x .0) ∙ e))
+posts-settled : (w : World) (d : Card) (v : ℕ) → Settles (w .card) d → Posts w v → Posts (at w d) v
+posts-settled w d v same x = record { idle = x .idle; addressed = x .addressed; carried = x .carried }
+posts-settled w d v (ends p s e) x = absurd (Option·none-ne-some p (sym (x .idle) ∙ e))
 
 allowed-settled : (q : Ask) (i : List ℕ) (w : World) (d : Card) → Settles (w .card) d → Allowed i w q → Allowed i (at w d) q
 unfolding clear-settled
@@ -44,11 +44,11 @@ allowed-settled (configRead32 o) i w d s x = tt
 allowed-settled (configWrite16 o v) i w d s x = tt
 allowed-settled (configWrite32 o v) i w d s x = tt
 allowed-settled (read b o) i w d s x = tt
-allowed-settled (write b o v) i w d s x = (x .0, λ e f. posts-settled (w .card) d v s (x .1 e f))
+allowed-settled (write b o v) i w d s x = (x .0, λ e f. posts-settled w d v s (x .1 e f))
 allowed-settled (attributes o v) i w d s x = tt
 allowed-settled (resource b) i w d s x = tt
 allowed-settled (stall t) i w d s x = tt
-allowed-settled (allocate n) i w d s x = tt
+allowed-settled (allocate n) i w d s x = λ e y u. x e y (settled-uses (w .card) d s y u)
 allowed-settled (mapped h n) i w d s x = x
 allowed-settled (unmap h) i w d s x = clear-settled w d h s x
 allowed-settled (free h n) i w d s x = (clear-settled w d h s (x .0), x .1)

@@ -1,2 +1,2 @@
-pub mod Alive
+pub mod Ends
 pub mod Live

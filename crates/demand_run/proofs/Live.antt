@@ -1,228 +1,264 @@
--- Demand 3 is not empty: the events that answer an opening's questions, on a card and a host that keep the rules.
+-- Demand 3 is not empty: the stories, on a card that holds nothing and a host that has handed out nothing.
 use Prim.Native.Nat.{ℕ}
-use mathlib.Core.Bool.{Bool, true, false, false≢true}
+use native.Mathlib.Omega.{arith}
+use mathlib.Core.Bool.{true}
 use mathlib.Core.List.{List, [], _∷_}
 use mathlib.Core.Option.{Option, some, none}
 use mathlib.Core.Path.{_≡_, refl, sym, _∙_, ap, subst}
-use lib.Dec.{eqb}
-use borrow.Author.Tests.{eq-eqb}
 use lib.ListN.{length}
-use Rattle.fields.specs.Outcome.{pick}
-use Rattle.pci.specs.Script.{Ask, Reply, shown, replyOf}
-use Rattle.pci.specs.Suits.{suitsOf}
-use Rattle.pci.specs.Machine.{Right}
-use Rattle.pci.proofs.Replies.{isReply, suits-reply}
-use Rattle.pci.specs.declared.Answer.{Answer}
-use Rattle.pci.specs.declared.Refusal.the-variants as x
-use Rattle.work.specs.Work.{isResting}
-use Rattle.work.specs.declared.Task.{Task}
-use Rattle.work.specs.declared.Ending.the-variants as e
+use Rattle.dma.specs.declared.Buffer.{Buffer}
+use Rattle.hcr.specs.Words.{isIn}
 use Rattle.session.specs.Session.{fresh}
-use Rattle.session.specs.Course.{Course, ret, ask, Here, here, Lent, Left, left, Rest, restOf}
+use Rattle.session.specs.Course.{here, Lent, Rest, restOf}
+use Rattle.session.specs.declared.Gave.{Gave}
 use Rattle.session.specs.declared.Gave.the-variants as v
-use Rattle.session.specs.declared.Closing.{Closing}
-use Rattle.session.specs.declared.Stage.{Stage}
 use Rattle.session.specs.declared.Stage.the-variants as g
 use Rattle.session.specs.declared.Failure.{Failure}
 use Rattle.session.specs.declared.Failure.the-variants as f
+use Rattle.session.specs.declared.Closing.{Closing}
+use Rattle.session.specs.declared.Closing.the-variants as z
 use Rattle.session.specs.declared.Session.{Session}
-use Rattle.opening_plan.specs.Opening.{opening}
-use Rattle.fw_plan.specs.Calls.{asksOf, isSession, isLent, answerable, refusedOf, answerOf, answerIn, stepOf, stepIn}
-use Rattle.calls_plan.specs.Calls.{callable, lentFor, begunTurn, begunInbox, begunOutbox, admitted, admittedIn, callOf, callIn}
-use Rattle.calls_plan.specs.declared.Call.the-variants as k
-use Rattle.calls_plan.proofs.Begins.{begunAt, begins}
-use Rattle.fw_plan.specs.Follows.{courseOf, courseAt, isRunning, hereAfter, Follows}
+use Rattle.fw_plan.specs.Calls.{asksOf, outcomeAt, outcomeOf, endedAs, isSession, isLent, refusedOf}
+use Rattle.fw_plan.specs.Follows.{courseOf}
+use Rattle.fw_plan.specs.declared.Outcome.{Outcome}
+use Rattle.fw_plan.specs.declared.Outcome.the-variants as u
 use Rattle.fw_plan.specs.declared.Turn.{Turn}
-use Rattle.fw_plan.proofs.Session.{session-follows}
-use Rattle.card.specs.Card.{same, Host, World, WorldStep, Allowed}
-use Rattle.card_calls.specs.SafeCourse.{SafeCourse}
-use Rattle.card_calls.proofs.Opening.{safe-opening}
-use Rattle.card_run.specs.Can.{Whole, CanCourse}
-use Rattle.card_run.proofs.Opening.{IsOpen, world₀, host₀, no-top, lends, lendable, empty, nil, empty-length, opening-runs}
-use Rattle.demand.specs.Events.{Call, callMake, callAnswer, Event, asked, Stand, Happens, SameBox, boxLeft, isClosing, isLending, givenAt, lendsTo, Step}
-use Rattle.demand.proofs.Plans.{Fit, Suited, Known, held-all, step-both}
-use Rattle.demand.proofs.Questions.{asked-shown}
-use Rattle.demand.proofs.Demand.{in-good, step-taken}
-use Rattle.demand_run.specs.Run.{Opens, NotEmpty}
-use Rattle.demand_run.proofs.Alive.{Sized, Busy, Alive, step-alive}
+use Rattle.calls_plan.specs.Calls.{isOpen, isTime, callable, hasRoom, lentFor, byList, barred, unless, begunTurn, begunInbox, callOf, callIn, courseFor}
+use Rattle.calls_plan.specs.declared.Call.{Call}
+use Rattle.calls_plan.specs.declared.Call.the-variants as k
+use Rattle.calls_plan.proofs.Begins.{begins}
+use Rattle.card.specs.Card.{same, World}
 use Rattle.card.proofs.Bools.{and-true}
-use Rattle.demand.proofs.Inbox.{step-length}
+use Rattle.card_run.specs.Can.{noUndo, Whole, CanCourse}
+use Rattle.card_run.proofs.Courses.{lendable, empty, nil, empty-length, whole, IsOpen, IsEnded}
+use Rattle.card_run.proofs.Opening.{IsNothing, Ready, world₀, host₀, opening-good}
+use Rattle.card_run.proofs.Client as cl
+use Rattle.card_run.proofs.Closing.{IsQuiet, closes-clean, closes-broken, closes-failed, can-resetting, can-keeping, opening-refused, opening-reset, opening-kept}
+use Rattle.card_run.proofs.Closing as co
+use Rattle.demand.specs.Events.{callMake, asked, Stand, Happens, SameBox, boxLeft, callsBy, beganBy, beganNow, lentBy, lentNow, lendsTo, SizedCall, Step}
+use Rattle.demand.specs.Demand.{Start}
+use Rattle.demand.proofs.Inbox.{call-length}
+use Rattle.demand.proofs.Demand.{Inv, in-good, begun-lends, begun-taken, made-by, starts}
+use Rattle.demand_run.specs.Run.{Chapter, Does, opens, fails, lends, nop, commands, oneUndo, undoes, quiesces, closes, NotEmpty}
+use Rattle.demand_run.proofs.Ends.{event, lent-good, along}
 
--- BETWEEN TWO CALLS the course has ended
-abbrev isRet : Course Rest → Bool
-isRet (ret l r) = true
-isRet (ask q l k) = false
+-- A CALL THAT IS TAKEN, and the stand behind it
+module _ (x : Stand) (d : Call) (input : List ℕ) (m : Lent) where
+  abbrev begun : Stand
+  begun = record {
+    session = begunTurn (x .session) d input (x .inbox) (m .undo) .session;
+    inbox = begunInbox (x .session) d input (x .inbox) (m .undo);
+    world = x .world;
+    calls = d ∷ x .calls;
+    began = beganBy (callMake d input) (x .calls) (asked (asksOf (x .session)) (x .inbox)) (x .world .host) (x .began);
+  }
 
-abbrev restIn : Rest → Course Rest → Rest
-restIn z (ret l r) = r
-restIn z (ask q l k) = z
+  module _ (time : callable (x .session) d ≡ true) (room : hasRoom d input ≡ true) (free : barred (x .session) d ≡ f.Nothing) (sized : SizedCall d) (ok : Whole m) (l : length (x .inbox) ≡ 4096) where
+    lent₁ : lentFor d input (x .inbox) (m .outbox) (m .undo) ≡ true
+    lent₁ = and-true (isLent (x .inbox) (m .outbox) (m .undo)) (hasRoom d input) (lent-good (x .inbox) m l ok) room
 
-ended : (st : Stage) (s : Session) (h : Here) → isRunning st ≡ false → (isRet (courseAt st s h) ≡ true) × (restIn (restOf s) (courseAt st s h) ≡ restOf s)
-ended g.Fresh s h q = (refl, refl)
-ended (g.Open y) s h q = (refl, refl)
-ended g.Ended s h q = (refl, refl)
-ended (g.Prepare y) s h q = absurd (false≢true (sym q))
-ended (g.Boot y) s h q = absurd (false≢true (sym q))
-ended (g.Client y) s h q = absurd (false≢true (sym q))
-ended (g.Close y) s h q = absurd (false≢true (sym q))
-
-busy-of : (st : Stage) (x : Task) → isRunning st ≡ true → Busy st x → isResting x ≡ false
-busy-of g.Fresh x q b = absurd (false≢true q)
-busy-of (g.Open y) x q b = absurd (false≢true q)
-busy-of g.Ended x q b = absurd (false≢true q)
-busy-of (g.Prepare y) x q b = b
-busy-of (g.Boot y) x q b = b
-busy-of (g.Client y) x q b = b
-busy-of (g.Close y) x q b = b
-
--- no client's call is under way in an opening, and so nothing is lent
-lends-not : (st : Stage) (z : Closing) (x : Task) → Fit ⊥ st z x → isLending st ≡ false
-lends-not g.Fresh z x h = refl
-lends-not (g.Open y) z x h = refl
-lends-not g.Ended z x h = refl
-lends-not (g.Prepare y) z x h = refl
-lends-not (g.Boot y) z x h = refl
-lends-not (g.Client y) z x h = absurd h
-lends-not (g.Close y) z x h = refl
-
-known-of : (st : Stage) (z : Closing) (x : Task) → isRunning st ≡ true → Fit ⊥ st z x → Known st z (Unit {0})
-known-of g.Fresh z x q h = absurd (false≢true q)
-known-of (g.Open y) z x q h = absurd (false≢true q)
-known-of g.Ended z x q h = absurd (false≢true q)
-known-of (g.Prepare y) z x q h = tt
-known-of (g.Boot y) z x q h = tt
-known-of (g.Client y) z x q h = absurd h
-known-of (g.Close y) z x q h = held-all (g.Close y) z (Unit {0}) tt
-
-abbrev stand : Session → List ℕ → World → Host → Stand
-stand s i w b = record { session = s; inbox = i; world = w; began = b }
-
-abbrev event : Call → List ℕ → Lent → Event
-event c i m = record { call = c; inbox = i; outbox = m .outbox; undo = m .undo }
-
-lent-good : (i : List ℕ) (m : Lent) → length i ≡ 4096 → Whole m → isLent i (m .outbox) (m .undo) ≡ true
-lent-good i m l x =
-    and-true (eqb (length i) 4096) _ (eq-eqb (length i) 4096 l) (and-true (eqb (length (m .outbox)) 4096) _ (eq-eqb (length (m .outbox)) 4096 (x .outbox)) (x .undo))
-
--- AN ANSWER TO THE OPEN QUESTION
-answers : (s : Session) (h : Here) (w : World) (b : Host) (q : Ask) (r : Reply q) (m : Lent) (y : World) (a : Answer) (res : List ℕ) → length (h .inbox) ≡ 4096 → Sized s → isLending (s .stage) ≡ false → asksOf s ≡ shown q
-    → Allowed (h .inbox) w q → Whole m → replyOf q a res ≡ some r → WorldStep w q r y
-    → Step (stand s (h .inbox) w b) (event (callAnswer a res) (h .inbox) m)
-    (stand (stepOf s a res (h .inbox) (m .outbox) (m .undo) .session) (stepIn s a res (h .inbox) (m .outbox) (m .undo)) y (pick (isClosing (s .stage)) b (y .host)))
-answers s h w b q r m y a res l ok no-lend e al x d st = record {
-  session = sym (ap (λ (t : Turn). t .session) turned);
-  lendable = x .lendable;
-  lent = subst (λ (t : Failure). SameBox t (h .inbox) (h .inbox)) (sym taken) refl;
-  left = sym (ap (λ (t : Failure). boxLeft t (answerIn s a res (h .inbox) (m .outbox) (m .undo)) (h .inbox)) taken ∙ boxed);
-  sized = tt;
-  between = y;
-  world = sym (ap (λ (t : Bool). lendsTo (pick t (givenAt (stepOf s a res (h .inbox) (m .outbox) (m .undo) .session .stage)) none) y) no-lend);
-  happens = subst (λ (t : Failure). Happens t (callAnswer a res) s (h .inbox) w y) (sym taken) (q, r, ap (λ z. asked z (h .inbox)) e ∙ asked-shown q (h .inbox) w al, d, st);
-  began = refl;
-}
-  where
-    time : answerable s a ≡ true
-    time = and-true (isSession s) (suitsOf (asksOf s) a) ok (ap (λ z. suitsOf z a) e ∙ suits-reply q a res ∙ ap isReply d)
-
-    room : isLent (h .inbox) (m .outbox) (m .undo) ≡ true
-    room = lent-good (h .inbox) m l x
-
-    turned : answerOf s a res (h .inbox) (m .outbox) (m .undo) ≡ stepOf s a res (h .inbox) (m .outbox) (m .undo)
-    turned = in-good (answerable s a) (isLent (h .inbox) (m .outbox) (m .undo)) _ _ _ time room
-
-    boxed : answerIn s a res (h .inbox) (m .outbox) (m .undo) ≡ stepIn s a res (h .inbox) (m .outbox) (m .undo)
-    boxed = in-good (answerable s a) (isLent (h .inbox) (m .outbox) (m .undo)) _ _ _ time room
-
-    taken : answerOf s a res (h .inbox) (m .outbox) (m .undo) .refusal ≡ f.Nothing
-    taken = ap (λ (t : Turn). t .refusal) turned ∙ step-taken s a res (h .inbox) (m .outbox) (m .undo)
-
--- ALONG THE COURSE: it is safe, and it can come to an open session
-live : (c : Course Rest) (P : World → Rest → Type 1) (s : Session) (h : Here) (w : World) (b : Host) → courseOf s h ≡ c → Alive s → Suited ⊥ s → length (h .inbox) ≡ 4096 → SafeCourse w c P → CanCourse w c IsOpen
-    → Opens (stand s (h .inbox) w b)
-live (ret l r) P s h w b e al su len safe can = record { events = []; end = stand s (h .inbox) w b; run = refl; stage = by-run (isRunning (s .stage)) refl }
-  where
-    by-run : (t : Bool) → isRunning (s .stage) ≡ t → s .stage ≡ g.Open v.Nothing
-    by-run true q =
-        let fol = subst (Follows s h) e (session-follows s h len q (busy-of (s .stage) (s .work .task) q (al .1))) in
-        sym (ap (λ (z : Rest). z .stage) (fol .2)) ∙ can .stage
-    by-run false q = ap (λ (z : Rest). z .stage) (sym (ended (s .stage) s h q .1) ∙ ap (restIn (restOf s)) e) ∙ can .stage
-live (ask q l k) P s h w b e al su len safe (r, m, y, ok, (a, res, d), st, can) =
-    let run : isRunning (s .stage) ≡ true = running (isRunning (s .stage)) refl in
-    let busy = busy-of (s .stage) (s .work .task) run (al .1) in
-    let fol = subst (Follows s h) e (session-follows s h len run busy) in
-    let allowed : Allowed (h .inbox) w q = subst (λ (z : Left). Allowed (z .inbox) w q) (fol .1) (safe .0) in
-    let next = live (k r m) P (stepOf s a res (h .inbox) (m .outbox) (m .undo) .session) (hereAfter s a res h m) y (pick (isClosing (s .stage)) b (y .host))
-    (subst (λ (z : Option (Reply q)). Right z (λ r. courseOf (stepOf s a res (h .inbox) (m .outbox) (m .undo) .session) (hereAfter s a res h m) ≡ k r m) (Unit {0})) d (fol .2 a res m))
-    (step-alive (h .inbox) len s a res (m .outbox) (m .undo) run (al .0) busy)
-    (step-both ⊥ (Unit {0}) s a res (h .inbox) (m .outbox) (m .undo) su (known-of (s .stage) (s .closing) (s .work .task) run su) .0) (step-length s a res (h .inbox) (m .outbox) (m .undo) len) (safe .1 r m y (ok .lendable) st) can in
-    record {
-      events = event (callAnswer a res) (h .inbox) m ∷ next .events;
-      end = next .end;
-      run = (
-        stand (stepOf s a res (h .inbox) (m .outbox) (m .undo) .session) (stepIn s a res (h .inbox) (m .outbox) (m .undo)) y (pick (isClosing (s .stage)) b (y .host)),
-        answers s h w b q r m y a res len (al .0) (lends-not (s .stage) (s .closing) (s .work .task) su) (fol .0) allowed ok d st,
-        next .run,
-      );
-      stage = next .stage;
+    takes : Step x (event (callMake d input) (x .inbox) m) begun
+    takes = record {
+      session = sym (ap (λ (t : Turn). t .session) turned);
+      lendable = ok .lendable;
+      sized = sized;
+      lent = subst (λ (t : Failure). SameBox t (x .inbox) (x .inbox)) (sym taken) refl;
+      left = sym (ap (λ (t : Failure). boxLeft t (callIn (x .session) d input (x .inbox) (m .outbox) (m .undo)) (x .inbox)) taken ∙ boxed);
+      between = x .world;
+      happens = subst (λ (t : Failure). Happens t (callMake d input) (x .session) (x .inbox) (x .world) (x .world)) (sym taken) (same, refl);
+      world = sym (ap (λ (t : Failure). lendsTo (lentNow t (d ∷ x .calls) (begun .session)) (x .world)) taken ∙ ap (λ (z : Option Buffer). lendsTo z (x .world)) (begun-lends d (x .calls) (x .session) input (x .inbox) (m .undo)));
+      calls = sym (ap (λ (t : Failure). callsBy t (callMake d input) (x .calls)) taken);
+      began = sym (ap (λ (t : Failure). beganNow t (callMake d input) (x .calls) (asked (asksOf (x .session)) (x .inbox)) (x .world .host) (x .began)) taken);
     }
-  where
-    running : (t : Bool) → isRunning (s .stage) ≡ t → isRunning (s .stage) ≡ true
-    running true p = p
-    running false p = absurd (false≢true (sym (ap isRet e) ∙ ended (s .stage) s h p .0))
+      where
+        turned : callOf (x .session) d input (x .inbox) (m .outbox) (m .undo) ≡ begunTurn (x .session) d input (x .inbox) (m .undo)
+        turned =
+            in-good (callable (x .session) d) (lentFor d input (x .inbox) (m .outbox) (m .undo)) _ _ _ time lent₁
+            ∙ ap (λ (h : Failure). unless h (begunTurn (x .session) d input (x .inbox) (m .undo)) (λ w. refusedOf (x .session) w (m .undo .count))) free
 
--- THE START: a fresh session, an empty inbox, a card that holds nothing, a host that has handed out nothing
-first : Whole (lends empty)
-first = lendable empty nil empty-length
+        boxed : callIn (x .session) d input (x .inbox) (m .outbox) (m .undo) ≡ begunInbox (x .session) d input (x .inbox) (m .undo)
+        boxed =
+            in-good (callable (x .session) d) (lentFor d input (x .inbox) (m .outbox) (m .undo)) _ _ _ time lent₁
+            ∙ ap (λ (h : Failure). unless h (begunInbox (x .session) d input (x .inbox) (m .undo)) (λ w. x .inbox)) free
 
-record Any (w : World) (x : Rest) : Type 1 where
+        taken : callOf (x .session) d input (x .inbox) (m .outbox) (m .undo) .refusal ≡ f.Nothing
+        taken = ap (λ (t : Turn). t .refusal) turned ∙ begun-taken (x .session) d input (x .inbox) (m .undo)
 
--- what the opening begins with
-abbrev begun : Session
-begun = begunTurn fresh k.Open [] empty no-top .session
+-- BETWEEN TWO CHAPTERS
+abbrev inv : (x : Stand) → Type 1
+inv x = Inv (host₀ .hand) host₀ x
 
-opened : Step (stand fresh empty world₀ host₀) (event (callMake k.Open []) empty (lends empty)) (stand begun (begunInbox fresh k.Open [] empty no-top) world₀ host₀)
-unfolding begunTurn begunInbox
-opened = record {
-  session = sym (ap (λ (t : Turn). t .session) turned);
-  lendable = first .lendable;
-  sized = tt;
-  lent = subst (λ (t : Failure). SameBox t empty empty) (sym taken) refl;
-  left = sym (ap (λ (t : Failure). boxLeft t (callIn fresh k.Open [] empty empty no-top) empty) taken ∙ boxed);
-  between = world₀;
-  happens = subst (λ (t : Failure). Happens t (callMake k.Open []) fresh empty world₀ world₀) (sym taken) (same, refl);
-  world = refl;
-  began = refl;
+record Sits (E : World → Rest → Type 1) (x : Stand) : Type 1 where
+  held : inv x
+  long : length (x .inbox) ≡ 4096
+  is : E (x .world) (restOf (x .session))
+
+-- A CHAPTER: the call is taken, and its course followed to an end that Q tells of
+abbrev lentIn : Chapter → Lent
+lentIn c = record { outbox = empty; undo = c .undo }
+
+chapter : (c : Chapter) (l : List Chapter) (x : Stand) → inv x → length (x .inbox) ≡ 4096 → isTime (x .session .stage) (c .call) ≡ true → hasRoom (c .call) [] ≡ true → barred (x .session) (c .call) ≡ f.Nothing
+    → SizedCall (c .call) → Whole (lentIn c) → (Q : World → Rest → Type 1) → CanCourse (x .world) (courseFor (c .call) (x .session) [] (here (x .inbox) empty (c .undo))) Q
+    → ((y : Stand) (w : World) → inv y → length (y .inbox) ≡ 4096 → y .world ≡ lendsTo (lentBy (y .calls) (y .session)) w → Q w (restOf (y .session)) → c .result (outcomeOf (y .session)) × Does l y)
+    → Does (c ∷ l) x
+chapter c l x i n t room free sized ok Q can more =
+    let time = and-true (isSession (x .session)) (isTime (x .session .stage) (c .call)) (i .alive .0) t in
+    let y = begun x (c .call) [] (lentIn c) in
+    let st = takes x (c .call) [] (lentIn c) time room free sized ok n in
+    let j = made-by host₀ refl refl refl x y (c .call) [] (x .inbox) empty (c .undo) i time (lent₁ x (c .call) [] (lentIn c) time room free sized ok n) free st in
+    let e = along host₀ refl refl refl Q (courseFor (c .call) (x .session) [] (here (x .inbox) empty (c .undo))) y (j .0) (x .world)
+    (ap (courseOf (y .session)) (j .1) ∙ begins (c .call) (x .session) [] (here (x .inbox) empty (c .undo)) n)
+    (sym (ap (λ (z : Option Buffer). lendsTo z (x .world)) (begun-lends (c .call) (x .calls) (x .session) [] (x .inbox) (c .undo)))) can in
+    let s = more (e .returns .end) (e .world) (e .inv) (e .long (call-length (x .session) (c .call) [] (x .inbox) (c .undo) n)) (e .lent) (e .rest) in (
+      record { events = event (callMake (c .call) []) (x .inbox) (lentIn c) ∷ e .returns .events; end = e .returns .end; run = (y, st, e .returns .run); returned = e .returns .returned; calls = e .returns .calls },
+      ([], refl, refl),
+      s .0,
+      s .1,
+    )
+
+-- what hca_result tells
+told : (s : Session) (y : Gave) → s .stage ≡ g.Open y → outcomeOf s ≡ u.Opened y
+told s y e = ap (outcomeAt (s .failure) (s .closing)) e
+
+told-end : (s : Session) (y : Failure) (c : Closing) (w : World) → IsEnded y c w (restOf s) → outcomeOf s ≡ endedAs y c
+told-end s y c w e = ap (outcomeAt (s .failure) (s .closing)) (e .stage) ∙ ap (λ (h : Failure). endedAs h (s .closing)) (e .failure) ∙ ap (endedAs y) (e .closing)
+
+-- what is lent at its end leaves a session open
+open-lent : (P : Gave → Type 0) (l : ℕ) (b : Option Buffer) (w : World) (r : Rest) → IsOpen P l w r → IsOpen P l (lendsTo b w) r
+open-lent P l none w r x = x
+open-lent P l (some b) w r x = record {
+  gave = x .gave;
+  so = x .so;
+  stage = x .stage;
+  up = record {
+    idle = record { pending = x .up .idle .pending; status = x .up .idle .status; last = x .up .idle .last };
+    running = x .up .running;
+    broken = x .up .broken;
+    silent = x .up .silent;
+    lends = x .up .lends;
+    started = x .up .started;
+  };
 }
-  where
-    room : lentFor k.Open [] empty empty no-top ≡ true
-    room = and-true (isLent empty empty no-top) true (lent-good empty (lends empty) empty-length first) refl
 
-    turned : callOf fresh k.Open [] empty empty no-top ≡ begunTurn fresh k.Open [] empty no-top
-    turned = in-good (callable fresh k.Open) (lentFor k.Open [] empty empty no-top) (admitted fresh k.Open [] empty no-top) (refusedOf fresh x.Short (no-top .count)) (refusedOf fresh x.Wrong (no-top .count)) refl room
+ready-lent : (b : Option Buffer) (w : World) (r : Rest) → Ready w r → Ready (lendsTo b w) r
+ready-lent none w r x = x
+ready-lent (some b) w r x = record { isOpen = open-lent IsNothing 0 (some b) w r (x .isOpen); spare = x .spare }
 
-    boxed : callIn fresh k.Open [] empty empty no-top ≡ begunInbox fresh k.Open [] empty no-top
-    boxed = in-good (callable fresh k.Open) (lentFor k.Open [] empty empty no-top) (admittedIn fresh k.Open [] empty no-top) empty empty refl room
+-- THE START: a fresh session
+abbrev start : Stand
+start = record { session = fresh; inbox = empty; world = world₀; calls = []; began = none }
 
-    taken : callOf fresh k.Open [] empty empty no-top .refusal ≡ f.Nothing
-    taken = ap (λ (t : Turn). t .refusal) turned
+start-is : Start start
+start-is = record { session = refl; calls = refl; began = refl; log = refl; inbox = refl; outbox = refl }
 
-safe : SafeCourse world₀ (opening (here empty empty no-top)) Any
-safe =
-    safe-opening (host₀ .hand) Any host₀ (λ n y z b w e o q. record {}) (λ n y b w o. record {}) (λ n b w o. record {}) (λ n y b w e. record {}) (here empty empty no-top) world₀
-    (record { inbox = empty-length; outbox = nil; undo = first .lendable .undo }) refl (record { own = tt; new = tt; apart = tt; others = λ h e. refl }) refl refl
+started : inv start
+started = starts start start-is
+
+-- AN OPENING
+does-open : (l : List Chapter) → ((x : Stand) → Sits Ready x → Does l x) → Does (opens ∷ l) start
+does-open l more =
+    chapter opens l start started empty-length refl refl refl tt whole Ready (opening-good (here empty empty noUndo))
+    (λ y w i n e q. (
+      told (y .session) v.Nothing (q .isOpen .stage ∙ ap g.Open (q .isOpen .so)),
+      more y (record { held = i; long = n; is = subst (λ (h : World). Ready h (restOf (y .session))) (sym e) (ready-lent (lentBy (y .calls) (y .session)) w (restOf (y .session)) q) }),
+    ))
+
+does-fail : (y : _) (c : Closing) → CanCourse world₀ (courseFor k.Open fresh [] (here empty empty noUndo)) (IsEnded (f.By y) c) → Does (fails c ∷ []) start
+does-fail y c can = chapter (fails c) [] start started empty-length refl refl refl tt whole (IsEnded (f.By y) c) can (λ x w i n e q. ((y, told-end (x .session) (f.By y) c w q), tt))
+
+-- A CLIENT'S CALL on an open session
+module _ (P : Gave → Type 0) (a : ℕ) (x : Stand) (s : Sits (IsOpen P a) x) where
+  open-now : isOpen (x .session .stage) ≡ true
+  open-now = ap isOpen (s .is .stage)
+
+  -- it leaves the session open
+  does-client : (c : Chapter) (l : List Chapter) → isTime (x .session .stage) (c .call) ≡ true → hasRoom (c .call) [] ≡ true → barred (x .session) (c .call) ≡ f.Nothing → SizedCall (c .call) → Whole (lentIn c)
+      → (R : Gave → Type 0) (b : ℕ) → CanCourse (x .world) (courseFor (c .call) (x .session) [] (here (x .inbox) empty (c .undo))) (IsOpen R b)
+      → ((y : Gave) (o : Outcome) → R y → o ≡ u.Opened y → c .result o) → ((y : Stand) → Sits (IsOpen R b) y → Does l y) → Does (c ∷ l) x
+  does-client c l t room free sized ok R b can result more =
+      chapter c l x (s .held) (s .long) t room free sized ok (IsOpen R b) can
+      (λ y w i n e q. (
+        result (q .gave) (outcomeOf (y .session)) (q .so) (told (y .session) (q .gave) (q .stage)),
+        more y (record { held = i; long = n; is = subst (λ (h : World). IsOpen R b h (restOf (y .session))) (sym e) (open-lent R b (lentBy (y .calls) (y .session)) w (restOf (y .session)) q) }),
+      ))
+
+  does-command : (l : List Chapter) → ((y : Stand) → Sits (IsOpen cl.IsCommand a) y → Does l y) → Does (commands ∷ l) x
+  unfolding isIn
+  does-command l more =
+      does-client commands l open-now refl refl (record { opMod = omega arith; inMod = omega arith; inParam = omega arith }) whole cl.IsCommand a
+      (cl.commands (x .session .info) (x .session .failure) (x .session .closing) a nop [] (x .session .books) (here (x .inbox) empty noUndo) (x .world) (omega arith) (omega arith) (s .is .up))
+      (λ y o r e. (r .0, r .1, e ∙ ap u.Opened (r .2))) more
+
+  does-undo : (l : List Chapter) → ((y : Stand) → Sits (IsOpen IsNothing a) y → Does l y) → Does (undoes ∷ l) x
+  unfolding isIn
+  does-undo l more =
+      does-client undoes l open-now refl refl tt (lendable empty nil empty-length oneUndo (record { opMod = omega arith; inMod = omega arith; inParam = omega arith }) refl) IsNothing a
+      (cl.undoes (x .session .info) (x .session .failure) (x .session .closing) a (x .session .books) (x .inbox) empty oneUndo (x .world) refl refl (omega arith) (omega arith) (s .is .up))
+      (λ y o r e. e ∙ ap u.Opened r) more
+
+-- a lend needs room on the host, which an opening leaves
+ready-open : (x : Stand) → Sits Ready x → Sits (IsOpen IsNothing 0) x
+ready-open x s = record { held = s .held; long = s .long; is = s .is .isOpen }
+
+does-lend : (x : Stand) → Sits Ready x → (l : List Chapter) → ((y : Stand) → Sits (IsOpen cl.IsLent 1) y → Does l y) → Does (lends ∷ l) x
+does-lend x s l more =
+    does-client IsNothing 0 x (ready-open x s) lends l (ap isOpen (s .is .isOpen .stage)) refl (ap (λ (n : ℕ). byList n 5000) (s .is .isOpen .up .lends)) tt whole cl.IsLent 1
+    (cl.lends (x .session .info) (x .session .failure) (x .session .closing) 5000 2 (x .session .books) (here (x .inbox) empty noUndo) (x .world) refl (omega arith) (s .is .spare) (s .is .isOpen .up))
+    (λ y o r e. (r .0, e ∙ ap u.Opened (r .1))) more
+
+-- A QUIESCE
+does-quiesce : (x : Stand) → Sits Ready x → (l : List Chapter) → ((y : Stand) → Sits IsQuiet y → Does l y) → Does (quiesces ∷ l) x
+does-quiesce x s l more =
+    chapter quiesces l x (s .held) (s .long) (ap isOpen (s .is .isOpen .stage)) refl refl tt whole IsQuiet
+    (co.quiesces (x .session .info) (x .session .failure) 0 (x .session .books) (x .inbox) empty (x .world) (s .is .isOpen .up))
+    (λ y w i n e q. (told (y .session) v.Nothing (q .stage), more y (record { held = i; long = n; is = record { stage = q .stage; broken = q .broken } })))
+
+-- A CLOSE
+does-close : (c : Closing) (x : Stand) → inv x → length (x .inbox) ≡ 4096 → isOpen (x .session .stage) ≡ true
+    → CanCourse (x .world) (courseFor k.Close (x .session) [] (here (x .inbox) empty noUndo)) (IsEnded f.Nothing c) → Does (closes c ∷ []) x
+does-close c x i n t can = chapter (closes c) [] x i n t refl refl tt whole (IsEnded f.Nothing c) can (λ y w j m e q. (told-end (y .session) f.Nothing c w q, tt))
+
+close-clean : (P : Gave → Type 0) (a : ℕ) (x : Stand) → Sits (IsOpen P a) x → Does (closes z.Clean ∷ []) x
+close-clean P a x s =
+    does-close z.Clean x (s .held) (s .long) (ap isOpen (s .is .stage)) (closes-clean (x .session .info) f.Nothing a (x .session .books) (x .inbox) empty (x .world) (s .is .up))
+
+close-reset : (x : Stand) → Sits Ready x → Does (closes z.Reset ∷ []) x
+close-reset x s =
+    does-close z.Reset x (s .held) (s .long) (ap isOpen (s .is .isOpen .stage))
+    (closes-failed (x .session .info) f.Nothing (IsEnded f.Nothing z.Reset) (can-resetting (x .session .info) f.Nothing) 0 (x .session .books) (x .inbox) empty (x .world) (s .is .isOpen .up))
+
+close-kept : (x : Stand) → Sits Ready x → Does (closes z.Kept ∷ []) x
+close-kept x s =
+    does-close z.Kept x (s .held) (s .long) (ap isOpen (s .is .isOpen .stage))
+    (closes-failed (x .session .info) f.Nothing (IsEnded f.Nothing z.Kept) (can-keeping (x .session .info) f.Nothing) 0 (x .session .books) (x .inbox) empty (x .world) (s .is .isOpen .up))
+
+close-quiet : (x : Stand) → Sits IsQuiet x → Does (closes z.Reset ∷ []) x
+close-quiet x s =
+    does-close z.Reset x (s .held) (s .long) (ap isOpen (s .is .stage))
+    (closes-broken (x .session .info) f.Nothing (IsEnded f.Nothing z.Reset) (can-resetting (x .session .info) f.Nothing) (x .session .books) (here (x .inbox) empty noUndo) (x .world) (s .is .broken))
+
+-- THE STORIES
+undo-close : (x : Stand) → Sits (IsOpen cl.IsCommand 1) x → Does (undoes ∷ closes z.Clean ∷ []) x
+undo-close x s = does-undo cl.IsCommand 1 x s (closes z.Clean ∷ []) (close-clean IsNothing 1)
+
+command-on : (x : Stand) → Sits (IsOpen cl.IsLent 1) x → Does (commands ∷ undoes ∷ closes z.Clean ∷ []) x
+command-on x s = does-command cl.IsLent 1 x s (undoes ∷ closes z.Clean ∷ []) undo-close
+
+lend-on : (x : Stand) → Sits Ready x → Does (lends ∷ commands ∷ undoes ∷ closes z.Clean ∷ []) x
+lend-on x s = does-lend x s (commands ∷ undoes ∷ closes z.Clean ∷ []) command-on
+
+quiesce-close : (x : Stand) → Sits Ready x → Does (quiesces ∷ closes z.Reset ∷ []) x
+quiesce-close x s = does-quiesce x s (closes z.Reset ∷ []) close-quiet
 
 pub not-empty : NotEmpty
-unfolding begunTurn begunInbox begunOutbox
-not-empty =
-    let next =
-    live (opening (here empty empty no-top)) Any begun (begunAt k.Open fresh [] (here empty empty no-top)) world₀ host₀ (begins k.Open fresh [] (here empty empty no-top) empty-length) (refl, refl) tt empty-length safe
-    (opening-runs (here empty empty no-top)) in (
-      stand fresh empty world₀ host₀,
-      record { session = refl; log = refl; inbox = refl; outbox = refl },
-      record {
-        events = event (callMake k.Open []) empty (lends empty) ∷ next .events;
-        end = next .end;
-        run = (stand begun (begunInbox fresh k.Open [] empty no-top) world₀ host₀, opened, next .run);
-        stage = next .stage;
-      },
-    )
+not-empty = record {
+  start = start;
+  fresh = start-is;
+  good = does-open (lends ∷ commands ∷ undoes ∷ closes z.Clean ∷ []) lend-on;
+  reset = does-open (closes z.Reset ∷ []) close-reset;
+  kept = does-open (closes z.Kept ∷ []) close-kept;
+  quiesced = does-open (quiesces ∷ closes z.Reset ∷ []) quiesce-close;
+  refused = does-fail _ z.Clean (opening-refused (here empty empty noUndo));
+  undone = does-fail _ z.Reset (opening-reset (here empty empty noUndo));
+  abandoned = does-fail _ z.Kept (opening-kept (here empty empty noUndo));
+}

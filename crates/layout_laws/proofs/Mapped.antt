@@ -15,7 +15,7 @@ use Rattle.layout.specs.declared.Layout.{Layout}
 use Rattle.layout.specs.Layout.{pow2Of, tableOf, based, tableIn, pagesUp, wholeOf, quarterOf, layOut}
 use Rattle.layout_laws.specs.Good.{Multiple, Tiles, GoodLayout, Apart, Each, AllApart, GoodRange, Counted, GoodRanges}
 use Rattle.layout.specs.Layout.{Pow}
-use Rattle.layout.proofs.Powers.{raised-le, pow-is}
+use Rattle.layout.proofs.Powers.{raised, raised-le, pow-is}
 use Rattle.layout.proofs.Placing.{all-find}
 use Rattle.layout_laws.proofs.Rows.{by-eq, find-same, find-other}
 use Rattle.layout_laws.proofs.Good.{pow-multiple, bytes-pow, add-multiple, pow-pos-of}
@@ -117,7 +117,7 @@ module _ (counts entries : List ℕ) (g : GoodLayout counts entries (layOut coun
   -- a whole table's range
   whole-good : (i : ℕ) → i < 11 → (i ≡ 8 → ⊥) → GoodRange (L .total) (wholeOf rows i)
   whole-good i h n =
-      record { from = base-paged i h; pages = bytes-paged i h; few = bytes-few i h n; within = tiles-in 0 (L .total) i rows (g .tiles) (present i h) .1 }
+      record { from = base-paged i h; pages = bytes-paged i h; some = present i h; few = bytes-few i h n; within = tiles-in 0 (L .total) i rows (g .tiles) (present i h) .1 }
 
   -- a range lies within the table of index i
   abbrev In : Range → ℕ → Type 0
@@ -164,11 +164,18 @@ module _ (counts entries : List ℕ) (g : GoodLayout counts entries (layOut coun
       let m : q * (at 8 .entry * 2 ^ 24) ≤ 3 * (at 8 .entry * 2 ^ 24) = mul-le-mul {n₁ = q} {m₁ = at 8 .entry * 2 ^ 24} {n₂ = 3} {m₂ = at 8 .entry * 2 ^ 24} (omega arith) (omega arith) in
       (omega arith, omega (arith, quarter-fits q i h n, cmpt-bytes))
 
+  quarter-some : (q i : ℕ) → i < 11 → 0 < quarterOf rows q i .bytes
+  quarter-some q i h =
+      let a : 0 < at i .count = rw (at-count i h) (pow-pos-of (pow2Of (getD counts i 0)) (raised (getD counts i 0) (count-fits i) .power)) in
+      let b : 1 * 1 ≤ at i .count * at 8 .entry = mul-le-mul {n₁ = 1} {m₁ = 1} {n₂ = at i .count} {m₂ = at 8 .entry} (omega (arith, a)) (omega (arith, cmpt-entry-pos)) in
+      omega (arith, b)
+
   quarter-good : (q i : ℕ) → q < 4 → i < 11 → (i ≡ 8 → ⊥) → GoodRange (L .total) (quarterOf rows q i)
   quarter-good q i l h n =
       record {
         from = add-multiple 4096 (at 8 .base) (q * (at 8 .entry * 2 ^ 24)) (base-paged 8 (lit< tt)) (q * (at 8 .entry * 2 ^ 12), quarter-step q (at 8 .entry));
         pages = ((at i .count * at 8 .entry + 4095) / 4096, refl);
+        some = quarter-some q i h;
         few = quarter-few q i h n;
         within = omega (arith, quarter-in q i l h n .1, tiles-in 0 (L .total) 8 rows (g .tiles) (present 8 (lit< tt)) .1);
       }

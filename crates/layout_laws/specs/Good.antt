@@ -48,10 +48,11 @@ abbrev pub AllApart : List Range → Type 0
 AllApart [] = Unit {0}
 AllApart (r ∷ rs) = Each (Apart r) rs × AllApart rs
 
--- a range in whole pages, at most 2^24 of them, within the area
+-- a range in whole pages, at least one and at most 2^24 of them, within the area
 pub record GoodRange (total : ℕ) (r : Range) : Type 0 where
   pub from : Multiple 4096 (r .virt)
   pub pages : Multiple 4096 (r .bytes)
+  pub some : 0 < r .bytes
   pub few : r .bytes ≤ 2 ^ 24 * 4096
   pub within : r .virt + r .bytes ≤ total
 

@@ -103,14 +103,21 @@ buffer-again : (s : List ℕ) (k : ℕ) → bufferWords (bufferIn (wordsIn s k 3
 unfolding wordsIn
 buffer-again s k = refl
 
+-- the ranges and the lent buffers, row by row
+rows-are : (xs : List ℕ) (s : Session) → Parts xs s → wordsIn xs 169 248 ≡ flat icmWords (s .books .lists .icm) ++ flat bufferWords (s .books .lists .lent)
+rows-are xs s p =
+    let i = s .books .lists .icm in
+    let l = s .books .lists .lent in
+    let icms : wordsIn xs 169 56 ≡ flat icmWords i = sym (ap (flat icmWords) (sym (p .icm)) ∙ flat-read icmOf icmWords 4 (λ r. refl) icm-again xs 169 14) in
+    let lents : wordsIn xs 225 192 ≡ flat bufferWords l = sym (ap (flat bufferWords) (sym (p .lent)) ∙ flat-read bufferIn bufferWords 3 (λ r. refl) buffer-again xs 225 64) in
+    join xs 169 56 192 (flat icmWords i) (flat bufferWords l) icms lents
+
 -- what stands behind the task
 behind-is : (xs : List ℕ) (s : Session) → Parts xs s → wordsIn xs 13 404 ≡ behindWords s
 behind-is xs s p =
     let i = s .books .lists .icm in
     let l = s .books .lists .lent in
-    let icms : wordsIn xs 169 56 ≡ flat icmWords i = sym (ap (flat icmWords) (sym (p .icm)) ∙ flat-read icmOf icmWords 4 (λ r. refl) icm-again xs 169 14) in
-    let lents : wordsIn xs 225 192 ≡ flat bufferWords l = sym (ap (flat bufferWords) (sym (p .lent)) ∙ flat-read bufferIn bufferWords 3 (λ r. refl) buffer-again xs 225 64) in
-    let rows = join xs 169 56 192 (flat icmWords i) (flat bufferWords l) icms lents in
+    let rows = rows-are xs s p in
     let finds = join xs 151 18 248 (findWords (s .work .find)) (flat icmWords i ++ flat bufferWords l) (p .find) rows in
     let tail = join xs 127 24 266 (resetWords (s .work .reset)) (findWords (s .work .find) ++ (flat icmWords i ++ flat bufferWords l)) (p .reset) finds in
     let ports = join xs 93 17 17 (portWords (s .info .port1)) (portWords (s .info .port2)) (p .port1) (p .port2) in
@@ -139,6 +146,14 @@ whole xs s b e =
     let g = given xs s e in
     let p = parts-of xs s (g .reads) (g .stand) in
     poll-alone xs s (s .work .task) b e ∙ ap (putWords xs 0) (sym (p .task)) ∙ words-same xs 0 13 (λ j h. b j)
+
+-- Of a session that was read the ledger and the rows stand there.
+pub books-stand : (xs : List ℕ) (s : Session) → decodeOf xs ≡ value s
+    → (wordsIn xs 21 32 ≡ ledgerWords (ledgerFor s)) × (wordsIn xs 169 248 ≡ flat icmWords (s .books .lists .icm) ++ flat bufferWords (s .books .lists .lent))
+books-stand xs s e =
+    let g = given xs s e in
+    let p = parts-of xs s (g .reads) (g .stand) in
+    (p .ledger, rows-are xs s p)
 
 rows-alike : {A : Type 0} (g : List ℕ → A) (m : ℕ) (xs ys : List ℕ) (k n : ℕ) → ((j : ℕ) → k ≤ j → wordsIn ys j m ≡ wordsIn xs j m) → rowsIn g m ys k n ≡ rowsIn g m xs k n
 unfolding rowsIn

@@ -137,7 +137,7 @@ Alive s = Sized s × Working s
 sized : (s : Session) → Counted (s .books .lists) → Sized s
 sized s h = and-true (leb (s .books .lists .ranges) 14) (leb (s .books .lists .lends) 64) (le-leb _ 14 (h .0)) (le-leb _ 64 (h .1))
 
-counted : (s : Session) → Sized s → Counted (s .books .lists)
+pub counted : (s : Session) → Sized s → Counted (s .books .lists)
 counted s ok = (
   leb-true (s .books .lists .ranges) 14 (and-left (leb (s .books .lists .ranges) 14) (leb (s .books .lists .lends) 64) ok),
   leb-true (s .books .lists .lends) 64 (and-right (leb (s .books .lists .ranges) 14) (leb (s .books .lists .lends) 64) ok),
