@@ -1,7 +1,18 @@
 //! What the programs of this package share: their arguments, what they print, how they end.
 
 use std::fmt::Display;
-use std::process::ExitCode;
+use std::path::{Path, PathBuf};
+use std::process::{Command, ExitCode};
+
+const ROOT: &str = concat!(env!("CARGO_MANIFEST_DIR"), "/../..");
+
+/// A program of the repository, proved and built.
+pub fn proved(name: &str) -> PathBuf {
+    let out = Command::new("rt").args(["check", name]).current_dir(ROOT).output();
+    let out = out.expect("the Rattle kit's command 'rt'");
+    assert!(out.status.success(), "rt check {name}: {}", String::from_utf8_lossy(&out.stderr));
+    Path::new(ROOT).join("target/bin").join(name)
+}
 
 /// The numbers that the command line begins with, the usual ones where they are left out, and the words behind them.
 /// Nothing where one is no number.

@@ -7,12 +7,13 @@ use std::process::{Command, Stdio};
 use std::sync::OnceLock;
 use std::thread;
 
+use crate::program::proved;
+
 use super::plans::{self, Case};
 use super::records::Record;
 use super::script::Faults;
 use super::tasks::{self, NAMES};
 
-const ROOT: &str = concat!(env!("CARGO_MANIFEST_DIR"), "/../..");
 /// So many runs go to the program at once.
 const BATCH: u64 = 2_000;
 /// Of a run with more calls only those near its beginning and its end fail in turn.
@@ -30,12 +31,7 @@ pub struct Label {
 /// The program, proved and built.
 pub fn program() -> &'static Path {
     static PROGRAM: OnceLock<PathBuf> = OnceLock::new();
-    PROGRAM.get_or_init(|| {
-        let out = Command::new("rt").args(["check", "machines"]).current_dir(ROOT).output();
-        let out = out.expect("the Rattle kit's command 'rt'");
-        assert!(out.status.success(), "rt check machines: {}", String::from_utf8_lossy(&out.stderr));
-        Path::new(ROOT).join("target/bin/machines")
-    })
+    PROGRAM.get_or_init(|| proved("machines"))
 }
 
 /// What the program writes for these records.
