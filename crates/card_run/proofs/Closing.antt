@@ -25,6 +25,7 @@ use Rattle.closing_plan.specs.Closing.{isHeld, lendsFrom, emptied, UNDOS, resto
 use Rattle.opening_plan.specs.Opening.{onGood, modStat, runFw, enable, opening}
 use Rattle.card.specs.Card.{same, World, store, unmapIn, handBack}
 use Rattle.card_run.specs.Can.{noUndo, CanCourse}
+use Rattle.card_run.proofs.Steps.{no-bytes}
 use Rattle.card_run.proofs.Tasks.{So, cleared, can-reset}
 use Rattle.card_run.proofs.Courses.{lends, empty, whole, Mode, going, hushed, At, IsEnded, course-true, course-false, can-run, can-sent, can-fail}
 use Rattle.card_run.proofs.Opening.{world₀, opening-maps}
@@ -44,16 +45,16 @@ module _ (n : Info) (f : Failure) where
         lends empty,
         v,
         whole,
-        (an.Done, [], refl),
+        (an.Done, [], refl, tt, no-bytes),
         ((w .card, same, same), refl),
         (
           tt,
           lends empty,
           v,
           whole,
-          (an.Done, [], refl),
+          (an.Done, [], refl, tt, no-bytes),
           (same, refl),
-          (good 0, lends empty, v, whole, (an.Qword 0, [], refl), (same, refl), record { stage = refl; failure = refl; closing = refl }),
+          (good 0, lends empty, v, whole, (an.Qword 0, [], refl, omega arith, no-bytes), (same, refl), record { stage = refl; failure = refl; closing = refl }),
         ),
       )
 
@@ -66,9 +67,9 @@ module _ (n : Info) (f : Failure) where
     lends empty,
     record { card = w .card; host = unmapIn (w .host) (y .handle) },
     whole,
-    (an.Done, [], refl),
+    (an.Done, [], refl, tt, no-bytes),
     (same, refl),
-    (good tt, lends empty, record { card = w .card; host = handBack (unmapIn (w .host) (y .handle)) (y .handle) (y .pages) }, whole, (an.Done, [], refl), (same, refl), can-freed l c b _ _),
+    (good tt, lends empty, record { card = w .card; host = handBack (unmapIn (w .host) (y .handle)) (y .handle) (y .pages) }, whole, (an.Done, [], refl, tt, no-bytes), (same, refl), can-freed l c b _ _),
   )
 
   can-giving : (c : Closing) (b : Books) (h : Here) (w : World) → CanCourse w (giving n f c b h) (IsEnded f c)
@@ -84,7 +85,7 @@ module _ (n : Info) (f : Failure) where
 
   pub can-keeping : (b : Books) (h : Here) (w : World) → CanCourse w (resetting n f b h) (IsEnded f c.Kept)
   unfolding resetting save
-  can-keeping b h w = (failed, lends empty, w, whole, (an.Failed, [], refl), (same, refl), can-parted c.Kept b _ w)
+  can-keeping b h w = (failed, lends empty, w, whole, (an.Failed, [], refl, tt, no-bytes), (same, refl), can-parted c.Kept b _ w)
 
   -- THE COMMANDS are all good
   module _ (Q : World → Rest → Type 1) (m : Mode) (ends : (b : Books) (h : Here) (w : World) → At m b (w .card) → CanCourse w (stopped n f b h) Q) where
@@ -165,16 +166,16 @@ module _ (n : Info) (f : Failure) where
         lends empty,
         v,
         whole,
-        (an.Done, [], refl),
+        (an.Done, [], refl, tt, no-bytes),
         ((w .card, same, same), refl),
         (
           good 0,
           lends empty,
           v,
           whole,
-          (an.Word 0, [], refl),
+          (an.Word 0, [], refl, omega arith, no-bytes),
           (same, refl),
-          (good tt, lends empty, v, whole, (an.Done, [], refl), (same, refl), record { stage = refl; broken = refl }),
+          (good tt, lends empty, v, whole, (an.Done, [], refl, tt, no-bytes), (same, refl), record { stage = refl; broken = refl }),
         ),
       )
 
@@ -188,7 +189,7 @@ module _ (n : Info) (f : Failure) where
 -- AN OPENING THAT FAILS: the attributes are refused; or RUN_FW fails, and the reset is good or fails
 pub opening-refused : (h : Here) → CanCourse world₀ (opening h) (IsEnded (f.By x.Attributes) c.Clean)
 unfolding enable
-opening-refused h = (failed, lends empty, world₀, whole, (an.Failed, [], refl), (same, refl), record { stage = refl; failure = refl; closing = refl })
+opening-refused h = (failed, lends empty, world₀, whole, (an.Failed, [], refl, tt, no-bytes), (same, refl), record { stage = refl; failure = refl; closing = refl })
 
 abbrev pub noBus : Failure
 noBus = f.By (x.Bus 0)

@@ -20,7 +20,7 @@ use Rattle.command.specs.declared.CmdEnd.{CmdEnd}
 use Rattle.card.specs.Card.{Card, Command, finish, Settles, same, ends, tbitOf, statusOf, written, begin, store, fenced, Shows, Host, World, mailAt}
 use Rattle.card.proofs.Command.{go-of, tbit-of}
 use Rattle.card_run.specs.Can.{Can}
-use Rattle.card_run.proofs.Steps.{says-read, can-true, can-false}
+use Rattle.card_run.proofs.Steps.{no-bytes, says-read, can-true, can-false}
 
 -- nothing is pending, and the last command taken since the reset, if there was one, had the other T and ended well
 pub record Idle (t : Bool) (k : Card) : Type 0 where
@@ -117,7 +117,7 @@ module _ (catas : Catas) (i : List ℕ) (t : Bool) (o : Post) (l : Host) (imm : 
   can-verdict us w e k = (
     tt,
     record { card = fenced (w .card) (mailAt (w .host) i); host = w .host },
-    (an.Done, [], refl),
+    (an.Done, [], refl, tt, no-bytes),
     ((w .card, same, refl), refl),
     can-judged us _ e (record { pending = k .pending; status = k .status; last = k .last }),
   )
@@ -156,7 +156,7 @@ module _ (catas : Catas) (i : List ℕ) (t : Bool) (o : Post) (l : Host) (imm : 
   can-start w a b e = (
     good tt,
     record { card = begin (w .card) (written (w .card) go); host = w .host },
-    (an.Done, [], refl),
+    (an.Done, [], refl, tt, no-bytes),
     ((w .card, same, subst (λ (x : Bool). Settles (pick x (begin (w .card) (written (w .card) go)) (w .card)) (begin (w .card) (written (w .card) go))) (sym (go-of t (o .«op_mod») (o .op) a b)) same), refl),
     can-poll (written (w .card) go) _ e refl (ap some (tbit-of t (o .«op_mod») (o .op) a b)) STALLS 0,
   )
@@ -171,37 +171,37 @@ module _ (catas : Catas) (i : List ℕ) (t : Bool) (o : Post) (l : Host) (imm : 
     can-false w Q (pendingIn (word (not t)) t) _ _ (ap (pendingIn (word (not t))) (sym (not-not t)) ∙ word-done (not t)) (
       good tt,
       w1,
-      (an.Done, [], refl),
+      (an.Done, [], refl, tt, no-bytes),
       ((w .card, same, same), refl),
       (
         good tt,
         w2,
-        (an.Done, [], refl),
+        (an.Done, [], refl, tt, no-bytes),
         ((w1 .card, same, same), refl),
         (
           good tt,
           w3,
-          (an.Done, [], refl),
+          (an.Done, [], refl, tt, no-bytes),
           ((w2 .card, same, same), refl),
           (
             good tt,
             w4,
-            (an.Done, [], refl),
+            (an.Done, [], refl, tt, no-bytes),
             ((w3 .card, same, same), refl),
             (
               good tt,
               w5,
-              (an.Done, [], refl),
+              (an.Done, [], refl, tt, no-bytes),
               ((w4 .card, same, same), refl),
               (
                 good tt,
                 w6,
-                (an.Done, [], refl),
+                (an.Done, [], refl, tt, no-bytes),
                 ((w5 .card, same, same), refl),
                 (
                   tt,
                   record { card = fenced (w6 .card) (mailAt (w .host) i); host = w .host },
-                  (an.Done, [], refl),
+                  (an.Done, [], refl, tt, no-bytes),
                   ((w6 .card, same, refl), refl),
                   can-start _ a b e,
                 ),

@@ -28,6 +28,7 @@ use Rattle.card.specs.Card.{Card, same, Host, World}
 use Rattle.card_calls.specs.SafeCourse.{Typed}
 use Rattle.card_calls.proofs.Courses.{untouched}
 use Rattle.card_run.specs.Can.{Can, noUndo, Whole, CanCourse}
+use Rattle.card_run.proofs.Steps.{no-bytes}
 use Rattle.card_run.proofs.Command.{Idle, Well, can-command}
 use Rattle.card_run.proofs.Tasks.{Room}
 
@@ -35,8 +36,8 @@ use Rattle.card_run.proofs.Tasks.{Room}
 abbrev pub lends : List ℕ → Lent
 lends out = record { outbox = out; undo = noUndo }
 
-pub lendable : (out : List ℕ) → Bytes out → length out ≡ 4096 → (u : Top) → Typed u → leb (u .count) 256 ≡ true → Whole (record { outbox = out; undo = u })
-lendable out b l u t c = record { lendable = record { outbox = b; undo = t }; outbox = l; undo = c }
+pub lendable : (out : List ℕ) → Bytes out → length out ≡ 4096 → (u : Top) → Typed u → leb (u .count) 256 ≡ true → u .op < 2 ^ 16 → (u .count ≡ 0 → u ≡ noUndo) → Whole (record { outbox = out; undo = u })
+lendable out b l u t c o n = record { lendable = record { outbox = b; undo = t }; outbox = l; undo = c; op = o; listed = n }
 
 pub top-typed : Typed noUndo
 top-typed = record { opMod = omega arith; inMod = omega arith; inParam = omega arith }
@@ -57,7 +58,7 @@ pub empty-length : length empty ≡ 4096
 empty-length = length-replicate {A = ℕ} 4096 0
 
 pub whole : Whole (lends empty)
-whole = lendable empty nil empty-length noUndo top-typed refl
+whole = lendable empty nil empty-length noUndo top-typed refl (omega arith) (λ e. refl)
 
 -- BETWEEN TWO COMMANDS: the card is idle, no command may still run, the session is not broken; it is silent or not, has so many lent buffers, and INIT_HCA was sent or not
 pub record Mode : Type 0 where
@@ -128,7 +129,7 @@ module _ (Q : World → Rest → Type 1) where
     -- with this outbox lent at every reply
     module _ (out : List ℕ) (ok : Bytes out) (l : length out ≡ 4096) where
       full : Whole (lends out)
-      full = lendable out ok l noUndo top-typed refl
+      full = lendable out ok l noUndo top-typed refl (omega arith) (λ e. refl)
 
       on : (t : Script A) (i : List ℕ) (w : World) → Can w t M → ((v : World) (x : A) → M v x → CanCourse v (K x (here i out noUndo)) Q) → CanCourse w (run neither t K (here i out noUndo)) Q
       on (s.ret x) i w y k = k w x y
@@ -170,4 +171,4 @@ module _ (Q : World → Rest → Type 1) where
     -- or its first look at the card fails
     pub can-fail : CanCourse w (K (r.Bus 0) (wired b (after (b .wire) (ending (b .wire .toggle) (r.Bus 0)))) (here (h .inbox) empty noUndo)) Q → CanCourse w (sends b p K h) Q
     unfolding command
-    can-fail k = (failed, lends empty, w, whole, (an.Failed, [], refl), (same, refl), k)
+    can-fail k = (failed, lends empty, w, whole, (an.Failed, [], refl, tt, no-bytes), (same, refl), k)

@@ -357,7 +357,7 @@ world₀ = record { card = card₀; host = host₀ }
 
 start : Before 0 (noBooks .wire) 0 false world₀
 start = record {
-  room = record { handles = λ n e. refl; pages = λ d q. absurd (Option·none-ne-some (q .1) (q .2)) };
+  room = record { handles = λ n e. refl; pages = λ d q. absurd (Option·none-ne-some (q .1) (q .2)); fewer = omega arith };
   new = record { pending = refl; last = refl; status = refl; running = refl; broken = refl; silent = refl; lends = refl; started = refl };
 }
 

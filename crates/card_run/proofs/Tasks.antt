@@ -1,15 +1,17 @@
 -- The other tasks can end well: on a card that does nothing of itself, and a host that hands out one handle and one page after the other.
-use Prim.Native.Nat.{ℕ, zero, suc, _+_, _-_, _*_, _%_, _^_, _≤_, _<_}
+use Prim.Native.Nat.{ℕ, zero, suc, _+_, _-_, _*_, _/_, _%_, _^_, _≤_, _<_, max}
+use native.Mathlib.Nat.{le-max-left}
 use native.Mathlib.Omega.{arith}
 use mathlib.Core.Bool.{Bool, true, false, _&&_, false≢true}
 use mathlib.Core.List.{List, [], _∷_}
 use mathlib.Core.Logic.{_⊎_, inl, inr, ⊎-elim}
 use mathlib.Core.Option.{some, none, Option·some-injective, Option·none-ne-some}
 use mathlib.Core.Path.{_≡_, refl, sym, _∙_, ap, subst}
-use lib.Dec.{eqb}
+use lib.Dec.{eqb, leb}
 use borrow.Author.Tests.{eq-eqb, le-leb, eqb-true, eqb-false}
 use lib.ListN.{set, replicate}
 use Rattle.fields.specs.Outcome.{Outcome, value, refused, pick}
+use Rattle.fields.proofs.Outcomes.{same-value, never-refused}
 use Rattle.bars.specs.Bars.{bars}
 use Rattle.bars.specs.declared.Pick.{Pick}
 use Rattle.bars.specs.declared.Size.the-variants as z
@@ -35,8 +37,9 @@ use Rattle.uar.specs.declared.Found.the-variants as fo
 use Rattle.work.specs.Work.{looking}
 use Rattle.card.specs.Card.{same, afterReset, Hold, Host, Meets, On, InUse, mapAt, mapIn, handOut, World}
 use Rattle.card.proofs.Owns.{put-same, put-other}
+use Rattle.card_calls.proofs.Areas.{pages-few}
 use Rattle.card_run.specs.Can.{Can}
-use Rattle.card_run.proofs.Steps.{says-read, can-true}
+use Rattle.card_run.proofs.Steps.{no-bytes, says-read, can-true}
 use Rattle.card.proofs.Bools.{and-true}
 
 -- the task ended so, and the world is as it was
@@ -49,16 +52,16 @@ pub can-attributing : (w : World) → Can w attributing (So (t.Enabled 0) w)
 can-attributing w = (
   good 0,
   w,
-  (an.Qword 0, [], refl),
+  (an.Qword 0, [], refl, omega arith, no-bytes),
   (same, refl),
-  (good 0, w, (an.Qword 0, [], refl), (same, refl), (good 0, w, (an.Qword 0, [], refl), (same, refl), record { so = refl; world = refl })),
+  (good 0, w, (an.Qword 0, [], refl, omega arith, no-bytes), (same, refl), (good 0, w, (an.Qword 0, [], refl, omega arith, no-bytes), (same, refl), record { so = refl; world = refl })),
 )
 
 pub can-claiming : (w : World) → Can w claiming (So l.Good w)
 can-claiming w = (
   failed,
   w,
-  (an.Failed, [], refl),
+  (an.Failed, [], refl, tt, no-bytes),
   (same, refl),
   (good 0, w, says-read 0 0x8069c 0 (omega arith), ((same, λ a b. absurd (false≢true (eq-eqb 0x8069c 0x80698 b))), refl), record { so = refl; world = refl }),
 )
@@ -74,15 +77,15 @@ module _ (w : World) where
   can-restore : (n : ℕ) (ds : List ℕ) → Can (cleared w) (restore n ds) Reset
   unfolding restore
   can-restore zero ds = record { so = refl; world = refl }
-  can-restore (suc n) ds = (good tt, cleared w, (an.Done, [], refl), (same, refl), can-restore n ds)
+  can-restore (suc n) ds = (good tt, cleared w, (an.Done, [], refl, tt, no-bytes), (same, refl), can-restore n ds)
 
   can-vendor : (n : ℕ) (next : Script ResetEnd) → Can (cleared w) next Reset → Can (cleared w) (vendor (suc n) next) Reset
   unfolding vendor
-  can-vendor n next h = (good 0, cleared w, (an.Word 0, [], refl), (same, refl), h)
+  can-vendor n next h = (good 0, cleared w, (an.Word 0, [], refl, omega arith, no-bytes), (same, refl), h)
 
   can-written : (ds : List ℕ) → Can w (written ds c.Absent) Reset
   can-written ds =
-      (good tt, cleared w, (an.Done, [], refl), ((w .card, same, same), refl), (tt, cleared w, (an.Done, [], refl), (same, refl), can-vendor 1999 (restore 16 ds) (can-restore 16 ds)))
+      (good tt, cleared w, (an.Done, [], refl, tt, no-bytes), ((w .card, same, same), refl), (tt, cleared w, (an.Done, [], refl, tt, no-bytes), (same, refl), can-vendor 1999 (restore 16 ds) (can-restore 16 ds)))
 
   can-semaphore : (n : ℕ) (next : Script ResetEnd) → Can w next Reset → Can w (semaphore n next) Reset
   unfolding semaphore
@@ -91,8 +94,8 @@ module _ (w : World) where
 
   can-save : (n : ℕ) (ds : List ℕ) → Can w (save n ds) Reset
   unfolding save
-  can-save zero ds = (failed, w, (an.Failed, [], refl), (same, refl), can-semaphore 10000 (written ds c.Absent) (can-written ds))
-  can-save (suc n) ds = (good 0, w, (an.Dword 0, [], refl), (same, refl), can-save n (set ds (dwordAt n) 0))
+  can-save zero ds = (failed, w, (an.Failed, [], refl, tt, no-bytes), (same, refl), can-semaphore 10000 (written ds c.Absent) (can-written ds))
+  can-save (suc n) ds = (good 0, w, (an.Dword 0, [], refl, omega arith, no-bytes), (same, refl), can-save n (set ds (dwordAt n) 0))
 
   pub can-reset : Can w reset Reset
   can-reset = can-save 16 (replicate 16 0)
@@ -109,34 +112,34 @@ unfolding u.reading bars
 can-finding w = (
   good 0,
   w,
-  (an.Dword 0, [], refl),
+  (an.Dword 0, [], refl, omega arith, no-bytes),
   (same, refl),
   (
     good 0,
     w,
-    (an.Dword 0, [], refl),
+    (an.Dword 0, [], refl, omega arith, no-bytes),
     (same, refl),
     (
       good 0,
       w,
-      (an.Dword 0, [], refl),
+      (an.Dword 0, [], refl, omega arith, no-bytes),
       (same, refl),
       (
         good 0,
         w,
-        (an.Dword 0, [], refl),
+        (an.Dword 0, [], refl, omega arith, no-bytes),
         (same, refl),
         (
           good 0,
           w,
-          (an.Dword 0, [], refl),
+          (an.Dword 0, [], refl, omega arith, no-bytes),
           (same, refl),
           (
             good 0,
             w,
-            (an.Dword 0, [], refl),
+            (an.Dword 0, [], refl, omega arith, no-bytes),
             (same, refl),
-            (failed, w, (an.Failed, [], refl), (same, refl), record { bar = _; so = refl; size = refl; world = refl }),
+            (failed, w, (an.Failed, [], refl, tt, no-bytes), (same, refl), record { bar = _; so = refl; size = refl; world = refl }),
           ),
         ),
       ),
@@ -154,17 +157,25 @@ can-looking w p l = (
   record { so = refl; world = refl },
 )
 
--- A BUFFER. The handles from n on are free, and no page from a on is in use
+-- A BUFFER. The handles from n on are free, no page from a on is in use, and each buffer has a page
 pub record Room (n a : ℕ) (k : Host) : Type 0 where
   pub handles : (h : ℕ) → n ≤ h → k .hand h ≡ none
   pub pages : (d : ℕ) → InUse k d → d < a
+  pub fewer : n ≤ a
+
+pages-some : (bytes n : ℕ) → pagesFor bytes ≡ value n → 1 ≤ n
+pages-some bytes n e = by (leb bytes (2 ^ 64 - 4096)) e
+  where
+    by : (t : Bool) → pick t (value (max 1 ((bytes + 4095) / 4096))) (refused 18 []) ≡ value n → 1 ≤ n
+    by true q = let s : max 1 ((bytes + 4095) / 4096) ≡ n = same-value q in let m = le-max-left 1 ((bytes + 4095) / 4096) in omega (arith, s, m)
+    by false q = absurd (never-refused q)
 
 pub record Grew (pages n a : ℕ) (w v : World) (x : Made) : Type 1 where
   pub made : x ≡ m.Ready (record { handle = n; dev = a * 4096; pages = pages })
   pub card : v .card ≡ w .card
   pub room : Room (suc n) (a + pages) (v .host)
 
-module _ (n a pages : ℕ) (fits : a + pages ≤ 2 ^ 52) (w : World) (r : Room n a (w .host)) where
+module _ (n a pages : ℕ) (some-page : 1 ≤ pages) (few : pages < 2 ^ 52) (fits : a + pages ≤ 2 ^ 52) (w : World) (r : Room n a (w .host)) where
   abbrev spot : Spot
   spot = record { address = a * 4096; bytes = pages * 4096 }
 
@@ -212,12 +223,12 @@ module _ (n a pages : ℕ) (fits : a + pages ≤ 2 ^ 52) (w : World) (r : Room n
   can-allocating = (
     good n,
     record { card = w .card; host = given },
-    (an.Handle n, [], refl),
+    (an.Handle n, [], refl, (let q = r .fewer in omega (arith, fits, q)), no-bytes),
     (same, (r .handles n (omega arith), refl)),
     (
       good spot,
       record { card = w .card; host = placed },
-      (an.Mapped (a * 4096) (pages * 4096), [], refl),
+      (an.Mapped (a * 4096) (pages * 4096), [], refl, (omega (arith, fits, some-page), omega (arith, few)), no-bytes),
       (same, (unused, refl)),
       subst (λ (b : Bool).
           Can (record { card = w .card; host = placed })
@@ -225,10 +236,10 @@ module _ (n a pages : ℕ) (fits : a + pages ≤ 2 ^ 52) (w : World) (r : Room n
           (λ x. pick (eqb (pages * 4096) (pages * 4096)) (ret (m.Ready (record { handle = n; dev = a * 4096; pages = pages }))) (release n pages (m.Refused f.Memory)))
           (release n pages (m.Refused f.Address))) (Grew pages n a w)) (sym accepted)
           (can-true (record { card = w .card; host = placed }) (Grew pages n a w) (eqb (pages * 4096) (pages * 4096)) _ _ (eq-eqb (pages * 4096) (pages * 4096) refl)
-          (record { made = refl; card = refl; room = record { handles = new-handle; pages = page-below } })),
+          (record { made = refl; card = refl; room = record { handles = new-handle; pages = page-below; fewer = (let q = r .fewer in omega (arith, q, some-page)) } })),
     ),
   )
 
 pub can-making : (bytes pages n a : ℕ) → pagesFor bytes ≡ value pages → a + pages ≤ 2 ^ 52 → (w : World) → Room n a (w .host) → Can w (making bytes) (Grew pages n a w)
 can-making bytes pages n a e fits w r =
-    subst (λ (o : Outcome ℕ). Can w (byOutcome o allocating (ret (m.Refused f.Address))) (Grew pages n a w)) (sym e) (can-allocating n a pages fits w r)
+    subst (λ (o : Outcome ℕ). Can w (byOutcome o allocating (ret (m.Refused f.Address))) (Grew pages n a w)) (sym e) (can-allocating n a pages (pages-some bytes pages e) (pages-few bytes pages e .0) fits w r)

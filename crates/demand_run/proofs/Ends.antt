@@ -29,14 +29,15 @@ use Rattle.fw_plan.proofs.Session.{session-follows}
 use Rattle.calls_plan.specs.declared.Call.{Call}
 use Rattle.card.specs.Card.{same, Hold, Host, World, WorldStep, fenced, mailAt, unmapIn, handBack, Allowed}
 use Rattle.card_calls.specs.SafeCourse.{SafeCourse}
-use Rattle.card_run.specs.Can.{Answered, Whole, CanCourse}
+use Rattle.card_run.specs.Can.{Slice, SizedAnswer, Answered, Whole, CanCourse}
+use Rattle.card_run.proofs.Steps.{no-bytes}
 use Rattle.card_run.proofs.Courses.{lends, empty, whole}
 use Rattle.demand.specs.Events.{Input, callAnswer, Event, asked, Stand, Happens, SameBox, boxLeft, callsBy, beganBy, beganNow, lentBy, lentNow, lendsTo, Step}
 use Rattle.demand.specs.Demand.{GivesBack, hasReturned}
 use Rattle.demand.proofs.Questions.{asked-shown}
 use Rattle.demand.proofs.Inbox.{step-length}
 use Rattle.demand.proofs.Demand.{Inv, Post, lent-given, in-good, step-taken, busy-of, answered-by, quiet, step, starts}
-use Rattle.demand_run.specs.Run.{Run, Returns, Finishes}
+use Rattle.demand_run.specs.Run.{Run, Takes, Returns, Finishes}
 use Rattle.card.proofs.Bools.{and-true}
 
 -- A REPLY that is always possible
@@ -44,20 +45,20 @@ abbrev Possible : Ask → World → Type 1
 Possible q w = (r : Reply q) × (v : World) × Answered q r × WorldStep w q r v
 
 possible : (q : Ask) (w : World) → Possible q w
-possible (configRead16 o) w = (failed, w, (an.Failed, [], refl), (same, refl))
-possible (configRead32 o) w = (failed, w, (an.Failed, [], refl), (same, refl))
-possible (configWrite16 o v) w = (failed, w, (an.Failed, [], refl), (same, refl))
-possible (configWrite32 o v) w = (failed, w, (an.Failed, [], refl), (same, refl))
-possible (read b o) w = (failed, w, (an.Failed, [], refl), (same, refl))
-possible (write b o v) w = (failed, w, (an.Failed, [], refl), (inl same, refl))
-possible (attributes o v) w = (failed, w, (an.Failed, [], refl), (same, refl))
-possible (resource b) w = (failed, w, (an.Failed, [], refl), (same, refl))
-possible (stall t) w = (tt, w, (an.Done, [], refl), (same, refl))
-possible (allocate n) w = (failed, w, (an.Failed, [], refl), (same, refl))
-possible (mapped h n) w = (failed, w, (an.Failed, [], refl), (same, refl))
-possible (unmap h) w = (failed, record { card = w .card; host = unmapIn (w .host) h }, (an.Failed, [], refl), (same, refl))
-possible (free h n) w = (failed, record { card = w .card; host = handBack (w .host) h n }, (an.Failed, [], refl), (same, refl))
-possible (fence i) w = (tt, record { card = fenced (w .card) (mailAt (w .host) i); host = w .host }, (an.Done, [], refl), ((w .card, same, refl), refl))
+possible (configRead16 o) w = (failed, w, (an.Failed, [], refl, tt, no-bytes), (same, refl))
+possible (configRead32 o) w = (failed, w, (an.Failed, [], refl, tt, no-bytes), (same, refl))
+possible (configWrite16 o v) w = (failed, w, (an.Failed, [], refl, tt, no-bytes), (same, refl))
+possible (configWrite32 o v) w = (failed, w, (an.Failed, [], refl, tt, no-bytes), (same, refl))
+possible (read b o) w = (failed, w, (an.Failed, [], refl, tt, no-bytes), (same, refl))
+possible (write b o v) w = (failed, w, (an.Failed, [], refl, tt, no-bytes), (inl same, refl))
+possible (attributes o v) w = (failed, w, (an.Failed, [], refl, tt, no-bytes), (same, refl))
+possible (resource b) w = (failed, w, (an.Failed, [], refl, tt, no-bytes), (same, refl))
+possible (stall t) w = (tt, w, (an.Done, [], refl, tt, no-bytes), (same, refl))
+possible (allocate n) w = (failed, w, (an.Failed, [], refl, tt, no-bytes), (same, refl))
+possible (mapped h n) w = (failed, w, (an.Failed, [], refl, tt, no-bytes), (same, refl))
+possible (unmap h) w = (failed, record { card = w .card; host = unmapIn (w .host) h }, (an.Failed, [], refl, tt, no-bytes), (same, refl))
+possible (free h n) w = (failed, record { card = w .card; host = handBack (w .host) h n }, (an.Failed, [], refl, tt, no-bytes), (same, refl))
+possible (fence i) w = (tt, record { card = fenced (w .card) (mailAt (w .host) i); host = w .host }, (an.Done, [], refl, tt, no-bytes), ((w .card, same, refl), refl))
 
 abbrev pub event : Input → List ℕ → Lent → Event
 event c i m = record { call = c; inbox = i; outbox = m .outbox; undo = m .undo }
@@ -87,19 +88,8 @@ module _ (x : Stand) (q : Ask) (r : Reply q) (m : Lent) (v : World) (a : Answer)
     pub room : Whole m → isLent (x .inbox) (m .outbox) (m .undo) ≡ true
     room w = lent-good (x .inbox) m l w
 
-    pub answers : Allowed (x .inbox) (x .world) q → Whole m → WorldStep (x .world) q r v → Step x (event (callAnswer a res) (x .inbox) m) behind
-    answers al w st = record {
-      session = sym (ap (λ (t : Turn). t .session) turned);
-      lendable = w .lendable;
-      sized = tt;
-      lent = subst (λ (t : Failure). SameBox t (x .inbox) (x .inbox)) (sym taken) refl;
-      left = sym (ap (λ (t : Failure). boxLeft t (answerIn (x .session) a res (x .inbox) (m .outbox) (m .undo)) (x .inbox)) taken ∙ boxed);
-      between = v;
-      happens = subst (λ (t : Failure). Happens t (callAnswer a res) (x .session) (x .inbox) (x .world) v) (sym taken) (q, r, ap (λ z. asked z (x .inbox)) e ∙ asked-shown q (x .inbox) (x .world) al, d, st);
-      world = sym (ap (λ (t : Failure). lendsTo (lentNow t (x .calls) after) v) taken);
-      calls = sym (ap (λ (t : Failure). callsBy t (callAnswer a res) (x .calls)) taken);
-      began = sym (ap (λ (t : Failure). beganNow t (callAnswer a res) (x .calls) (asked (asksOf (x .session)) (x .inbox)) (x .world .host) (x .began)) taken);
-    }
+    pub answers : Allowed (x .inbox) (x .world) q → Whole m → WorldStep (x .world) q r v → SizedAnswer a × Slice res → Takes x (event (callAnswer a res) (x .inbox) m) behind
+    answers al w st fit = record { step = step-on; taken = taken; typed = fit; lent = w }
       where
         turned : answerOf (x .session) a res (x .inbox) (m .outbox) (m .undo) ≡ stepOf (x .session) a res (x .inbox) (m .outbox) (m .undo)
         turned = in-good (answerable (x .session) a) (isLent (x .inbox) (m .outbox) (m .undo)) _ _ _ time (room w)
@@ -109,6 +99,20 @@ module _ (x : Stand) (q : Ask) (r : Reply q) (m : Lent) (v : World) (a : Answer)
 
         taken : answerOf (x .session) a res (x .inbox) (m .outbox) (m .undo) .refusal ≡ f.Nothing
         taken = ap (λ (t : Turn). t .refusal) turned ∙ step-taken (x .session) a res (x .inbox) (m .outbox) (m .undo)
+
+        step-on : Step x (event (callAnswer a res) (x .inbox) m) behind
+        step-on = record {
+          session = sym (ap (λ (t : Turn). t .session) turned);
+          lendable = w .lendable;
+          sized = tt;
+          lent = subst (λ (t : Failure). SameBox t (x .inbox) (x .inbox)) (sym taken) refl;
+          left = sym (ap (λ (t : Failure). boxLeft t (answerIn (x .session) a res (x .inbox) (m .outbox) (m .undo)) (x .inbox)) taken ∙ boxed);
+          between = v;
+          happens = subst (λ (t : Failure). Happens t (callAnswer a res) (x .session) (x .inbox) (x .world) v) (sym taken) (q, r, ap (λ z. asked z (x .inbox)) e ∙ asked-shown q (x .inbox) (x .world) al, d, st);
+          world = sym (ap (λ (t : Failure). lendsTo (lentNow t (x .calls) after) v) taken);
+          calls = sym (ap (λ (t : Failure). callsBy t (callAnswer a res) (x .calls)) taken);
+          began = sym (ap (λ (t : Failure). beganNow t (callAnswer a res) (x .calls) (asked (asksOf (x .session)) (x .inbox)) (x .world .host) (x .began)) taken);
+        }
 
 -- AT THE END OF A COURSE
 abbrev isRet : Course Rest → Bool
@@ -169,11 +173,11 @@ module _ (k : Host) (log : k .log ≡ []) (in-none : k .inbox ≡ none) (out-non
 
       goes : CanCourse (x .world) (ask y l d) Q → ((r : Reply y) (m : Lent) (z : Stand) (j : Inv base k z) (v : World) → courseOf (z .session) (j .there) ≡ d r m → Lends z v → CanCourse v (d r m) Q → Ended k Q z)
           → Ended k Q x
-      goes (r, m, v, ok, (a, res, q), st₁, can) more = record {
+      goes (r, m, v, ok, (a, res, q, small, few), st₁, can) more = record {
         returns = record {
           events = event (callAnswer a res) (x .inbox) m ∷ rest .returns .events;
           end = rest .returns .end;
-          run = (next, st, rest .returns .run);
+          run = (next, st, tt, rest .returns .run);
           returned = rest .returns .returned;
           calls = rest .returns .calls;
         };
@@ -187,13 +191,13 @@ module _ (k : Host) (log : k .log ≡ []) (in-none : k .inbox ≡ none) (out-non
           next : Stand
           next = behind x y r m v a res
 
-          st : Step x (event (callAnswer a res) (x .inbox) m) next
-          st = answers x y r m v a res (i .long p) (i .alive .0) (fol₁ .0) q al ok st₁
+          st : Takes x (event (callAnswer a res) (x .inbox) m) next
+          st = answers x y r m v a res (i .long p) (i .alive .0) (fol₁ .0) q al ok st₁ (small, few)
 
           onto : (j : Inv base k next) × (j .there ≡ hereAfter (x .session) a res (here (x .inbox) (i .there .outbox) (i .there .undo)) m) × GivesBack (x .world) (next .world)
           onto =
               answered-by k log in-none out-none x next (x .inbox) (m .outbox) (m .undo) i a res
-              (time x y r m v a res (i .long p) (i .alive .0) (fol₁ .0) q) (room x y r m v a res (i .long p) (i .alive .0) (fol₁ .0) q ok) st
+              (time x y r m v a res (i .long p) (i .alive .0) (fol₁ .0) q) (room x y r m v a res (i .long p) (i .alive .0) (fol₁ .0) q ok) (st .step)
 
           rest : Ended k Q next
           rest =

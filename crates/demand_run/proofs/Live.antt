@@ -29,7 +29,8 @@ use Rattle.calls_plan.specs.declared.Call.the-variants as k
 use Rattle.calls_plan.proofs.Begins.{begins}
 use Rattle.card.specs.Card.{same, World}
 use Rattle.card.proofs.Bools.{and-true}
-use Rattle.card_run.specs.Can.{noUndo, Whole, CanCourse}
+use Rattle.card_run.specs.Can.{Slice, noUndo, Whole, CanCourse}
+use Rattle.card_run.proofs.Steps.{no-bytes}
 use Rattle.card_run.proofs.Courses.{lendable, empty, nil, empty-length, whole, IsOpen, IsEnded}
 use Rattle.card_run.proofs.Opening.{IsNothing, Ready, world₀, host₀, opening-good}
 use Rattle.card_run.proofs.Client as cl
@@ -39,7 +40,7 @@ use Rattle.demand.specs.Events.{callMake, asked, Stand, Happens, SameBox, boxLe
 use Rattle.demand.specs.Demand.{Start}
 use Rattle.demand.proofs.Inbox.{call-length}
 use Rattle.demand.proofs.Demand.{Inv, in-good, begun-lends, begun-taken, made-by, starts}
-use Rattle.demand_run.specs.Run.{Chapter, Does, opens, fails, lends, nop, commands, oneUndo, undoes, quiesces, closes, NotEmpty}
+use Rattle.demand_run.specs.Run.{Takes, Chapter, Does, opens, fails, lends, nop, commands, oneUndo, undoes, quiesces, closes, NotEmpty}
 use Rattle.demand_run.proofs.Ends.{event, lent-good, along}
 
 -- A CALL THAT IS TAKEN, and the stand behind it
@@ -57,19 +58,8 @@ module _ (x : Stand) (d : Call) (input : List ℕ) (m : Lent) where
     lent₁ : lentFor d input (x .inbox) (m .outbox) (m .undo) ≡ true
     lent₁ = and-true (isLent (x .inbox) (m .outbox) (m .undo)) (hasRoom d input) (lent-good (x .inbox) m l ok) room
 
-    takes : Step x (event (callMake d input) (x .inbox) m) begun
-    takes = record {
-      session = sym (ap (λ (t : Turn). t .session) turned);
-      lendable = ok .lendable;
-      sized = sized;
-      lent = subst (λ (t : Failure). SameBox t (x .inbox) (x .inbox)) (sym taken) refl;
-      left = sym (ap (λ (t : Failure). boxLeft t (callIn (x .session) d input (x .inbox) (m .outbox) (m .undo)) (x .inbox)) taken ∙ boxed);
-      between = x .world;
-      happens = subst (λ (t : Failure). Happens t (callMake d input) (x .session) (x .inbox) (x .world) (x .world)) (sym taken) (same, refl);
-      world = sym (ap (λ (t : Failure). lendsTo (lentNow t (d ∷ x .calls) (begun .session)) (x .world)) taken ∙ ap (λ (z : Option Buffer). lendsTo z (x .world)) (begun-lends d (x .calls) (x .session) input (x .inbox) (m .undo)));
-      calls = sym (ap (λ (t : Failure). callsBy t (callMake d input) (x .calls)) taken);
-      began = sym (ap (λ (t : Failure). beganNow t (callMake d input) (x .calls) (asked (asksOf (x .session)) (x .inbox)) (x .world .host) (x .began)) taken);
-    }
+    takes : Slice input → Takes x (event (callMake d input) (x .inbox) m) begun
+    takes fit = record { step = step-on; taken = taken; typed = fit; lent = ok }
       where
         turned : callOf (x .session) d input (x .inbox) (m .outbox) (m .undo) ≡ begunTurn (x .session) d input (x .inbox) (m .undo)
         turned =
@@ -83,6 +73,20 @@ module _ (x : Stand) (d : Call) (input : List ℕ) (m : Lent) where
 
         taken : callOf (x .session) d input (x .inbox) (m .outbox) (m .undo) .refusal ≡ f.Nothing
         taken = ap (λ (t : Turn). t .refusal) turned ∙ begun-taken (x .session) d input (x .inbox) (m .undo)
+
+        step-on : Step x (event (callMake d input) (x .inbox) m) begun
+        step-on = record {
+          session = sym (ap (λ (t : Turn). t .session) turned);
+          lendable = ok .lendable;
+          sized = sized;
+          lent = subst (λ (t : Failure). SameBox t (x .inbox) (x .inbox)) (sym taken) refl;
+          left = sym (ap (λ (t : Failure). boxLeft t (callIn (x .session) d input (x .inbox) (m .outbox) (m .undo)) (x .inbox)) taken ∙ boxed);
+          between = x .world;
+          happens = subst (λ (t : Failure). Happens t (callMake d input) (x .session) (x .inbox) (x .world) (x .world)) (sym taken) (same, refl);
+          world = sym (ap (λ (t : Failure). lendsTo (lentNow t (d ∷ x .calls) (begun .session)) (x .world)) taken ∙ ap (λ (z : Option Buffer). lendsTo z (x .world)) (begun-lends d (x .calls) (x .session) input (x .inbox) (m .undo)));
+          calls = sym (ap (λ (t : Failure). callsBy t (callMake d input) (x .calls)) taken);
+          began = sym (ap (λ (t : Failure). beganNow t (callMake d input) (x .calls) (asked (asksOf (x .session)) (x .inbox)) (x .world .host) (x .began)) taken);
+        }
 
 -- BETWEEN TWO CHAPTERS
 abbrev inv : (x : Stand) → Type 1
@@ -104,14 +108,17 @@ chapter : (c : Chapter) (l : List Chapter) (x : Stand) → inv x → length (x .
 chapter c l x i n t room free sized ok Q can more =
     let time = and-true (isSession (x .session)) (isTime (x .session .stage) (c .call)) (i .alive .0) t in
     let y = begun x (c .call) [] (lentIn c) in
-    let st = takes x (c .call) [] (lentIn c) time room free sized ok n in
-    let j = made-by host₀ refl refl refl x y (c .call) [] (x .inbox) empty (c .undo) i time (lent₁ x (c .call) [] (lentIn c) time room free sized ok n) free st in
+    let st = takes x (c .call) [] (lentIn c) time room free sized ok n no-bytes in
+    let j = made-by host₀ refl refl refl x y (c .call) [] (x .inbox) empty (c .undo) i time (lent₁ x (c .call) [] (lentIn c) time room free sized ok n) free (st .step) in
     let e = along host₀ refl refl refl Q (courseFor (c .call) (x .session) [] (here (x .inbox) empty (c .undo))) y (j .0) (x .world)
     (ap (courseOf (y .session)) (j .1) ∙ begins (c .call) (x .session) [] (here (x .inbox) empty (c .undo)) n)
     (sym (ap (λ (z : Option Buffer). lendsTo z (x .world)) (begun-lends (c .call) (x .calls) (x .session) [] (x .inbox) (c .undo)))) can in
     let s = more (e .returns .end) (e .world) (e .inv) (e .long (call-length (x .session) (c .call) [] (x .inbox) (c .undo) n)) (e .lent) (e .rest) in (
-      record { events = event (callMake (c .call) []) (x .inbox) (lentIn c) ∷ e .returns .events; end = e .returns .end; run = (y, st, e .returns .run); returned = e .returns .returned; calls = e .returns .calls },
+      event (callMake (c .call) []) (x .inbox) (lentIn c),
+      y,
       ([], refl, refl),
+      st,
+      e .returns,
       s .0,
       s .1,
     )
@@ -192,7 +199,7 @@ module _ (P : Gave → Type 0) (a : ℕ) (x : Stand) (s : Sits (IsOpen P a) x) w
   does-undo : (l : List Chapter) → ((y : Stand) → Sits (IsOpen IsNothing a) y → Does l y) → Does (undoes ∷ l) x
   unfolding isIn
   does-undo l more =
-      does-client undoes l open-now refl refl tt (lendable empty nil empty-length oneUndo (record { opMod = omega arith; inMod = omega arith; inParam = omega arith }) refl) IsNothing a
+      does-client undoes l open-now refl refl tt (lendable empty nil empty-length oneUndo (record { opMod = omega arith; inMod = omega arith; inParam = omega arith }) refl (omega arith) (λ e. let z : ⊥ = omega (arith, e) in absurd z)) IsNothing a
       (cl.undoes (x .session .info) (x .session .failure) (x .session .closing) a (x .session .books) (x .inbox) empty oneUndo (x .world) refl refl (omega arith) (omega arith) (s .is .up))
       (λ y o r e. e ∙ ap u.Opened r) more
 

@@ -11,6 +11,7 @@ use Rattle.pci.specs.declared.Refusal.{Refusal}
 use Rattle.session.specs.declared.Top.{Top}
 use Rattle.session.specs.declared.Form.the-variants as fm
 use Rattle.session.specs.declared.Gave.the-variants as v
+use Rattle.session.specs.declared.Failure.the-variants as f
 use Rattle.session.specs.declared.Closing.{Closing}
 use Rattle.session.specs.declared.Closing.the-variants as z
 use Rattle.fw_plan.specs.Calls.{asksOf, outcomeOf}
@@ -19,8 +20,8 @@ use Rattle.fw_plan.specs.declared.Outcome.the-variants as u
 use Rattle.calls_plan.specs.declared.Call.{Call}
 use Rattle.calls_plan.specs.declared.Call.the-variants as k
 use Rattle.client_plan.specs.declared.Request.{Request}
-use Rattle.card_run.specs.Can.{noUndo}
-use Rattle.demand.specs.Events.{callMake, Event, Stand, Step}
+use Rattle.card_run.specs.Can.{Slice, SizedAnswer, noUndo, Whole}
+use Rattle.demand.specs.Events.{Input, callMake, callAnswer, Event, turn, Stand, lentWith, Step}
 use Rattle.demand.specs.Demand.{Start, hasReturned}
 
 -- the events, one after the other
@@ -28,11 +29,32 @@ abbrev pub Run : List Event → Stand → Stand → Type 1
 Run [] x y = x ≡ y
 Run (e ∷ es) x y = (m : Stand) × Step x e m × Run es m y
 
+-- AN EVENT THAT IS TAKEN, of bytes and numbers of their types, with mailboxes of 4,096 bytes and an
+-- undo list
+abbrev pub OfTypes : Input → Type 0
+OfTypes (callMake c y) = Slice y
+OfTypes (callAnswer a r) = SizedAnswer a × Slice r
+
+pub record Takes (x : Stand) (e : Event) (y : Stand) : Type 1 where
+  pub step : Step x e y
+  pub taken : turn (x .session) e .refusal ≡ f.Nothing
+  pub typed : OfTypes (e .call)
+  pub lent : Whole (lentWith e)
+
+-- answers, one after the other
+abbrev pub IsAnswer : Input → Type 0
+IsAnswer (callMake c y) = ⊥
+IsAnswer (callAnswer a r) = Unit {0}
+
+abbrev pub Answers : List Event → Stand → Stand → Type 1
+Answers [] x y = x ≡ y
+Answers (e ∷ es) x y = (m : Stand) × Takes x e m × IsAnswer (e .call) × Answers es m y
+
 -- they lead to a stand where nothing is asked, and these calls were taken
 pub record Returns (x : Stand) (l : List Call) : Type 1 where
   pub events : List Event
   pub end : Stand
-  pub run : Run events x end
+  pub run : Answers events x end
   pub returned : hasReturned (asksOf (end .session)) ≡ true
   pub calls : end .calls ≡ l
 
@@ -47,16 +69,16 @@ pub record Chapter : Type 1 where
   pub undo : Top
   pub result : Outcome → Type 0
 
--- the first event is the call
-abbrev pub Begins : Chapter → List Event → Type 0
-Begins c [] = ⊥
-Begins c (e ∷ es) = (input : List ℕ) × (e .call ≡ callMake (c .call) input) × (e .undo ≡ c .undo)
+-- the event is the call
+abbrev pub Begins : Chapter → Event → Type 0
+Begins c e = (input : List ℕ) × (e .call ≡ callMake (c .call) input) × (e .undo ≡ c .undo)
 
 -- each call is taken, and returns so
 abbrev pub Does : List Chapter → Stand → Type 1
 Does [] x = Unit {1}
 Does (c ∷ l) x =
-    (r : Returns x (c .call ∷ x .calls)) × Begins c (r .events) × c .result (outcomeOf (r .end .session)) × Does l (r .end)
+    (e : Event) × (m : Stand) × Begins c e × Takes x e m
+    × (r : Returns m (c .call ∷ x .calls)) × c .result (outcomeOf (r .end .session)) × Does l (r .end)
 
 -- THE CHAPTERS. An opening is good, or fails with this result of its closing
 abbrev pub opens : Chapter
