@@ -42,7 +42,7 @@ lendable out b l u t c o n = record { lendable = record { outbox = b; undo = t }
 pub top-typed : Typed noUndo
 top-typed = record { opMod = omega arith; inMod = omega arith; inParam = omega arith }
 
-zeros : (n : ℕ) → Bytes (replicate n 0)
+pub zeros : (n : ℕ) → Bytes (replicate n 0)
 zeros zero k = let h : 0 < 256 = omega arith in h
 zeros (suc n) zero = let h : 0 < 256 = omega arith in h
 zeros (suc n) (suc k) = zeros n k

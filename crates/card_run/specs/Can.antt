@@ -16,10 +16,10 @@ use Rattle.session.specs.declared.Top.{Top}
 use Rattle.card.specs.Card.{World, WorldStep}
 use Rattle.card_calls.specs.SafeCourse.{Lendable}
 
--- what the type of a slice of bytes gives
+-- a slice of bytes, so short that some of them have room in one memory
 pub record Slice (s : List ℕ) : Type 0 where
   pub bytes : (k : ℕ) → getD s k 0 < 256
-  pub long : length s < 2 ^ 63
+  pub long : length s < 2 ^ 32
 
 -- the numbers of an answer are those of its type
 abbrev pub SizedAnswer : Answer → Type 0

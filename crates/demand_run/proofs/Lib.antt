@@ -1,2 +1,4 @@
 pub mod Ends
+pub mod Lift
 pub mod Live
+pub mod Octets
