@@ -109,7 +109,7 @@ top-is u h = by (u .count) refl
         (lt-ltb n (length (replicate (suc n) (recordOf u))) (let l = length-replicate (suc n) (recordOf u) in omega (arith, l)))
         ∙ ap (topAt (suc n)) (getD-replicate (suc n) n (recordOf u) noRecord (omega arith)) ∙ ap (λ (k : ℕ). topAt k (recordOf u)) (sym e)
 
-no-record : TypedUndo noRecord
+pub no-record : TypedUndo noRecord
 no-record = record { op = omega arith; sized = record { opMod = omega arith; inMod = omega arith; inParam = omega arith } }
 
 alike : (u : Undo) → TypedUndo u → (n i : ℕ) → TypedUndo (getD (replicate n u) i noRecord)
@@ -175,7 +175,7 @@ pub record Held (st : List ℕ) (x : Stand) : Type 1 where
   pub slice : Slice st
   pub box : Bytes (x .inbox)
 
-encoded-slice : (st : List ℕ) (s : Session) → Slice st → Slice (encodedIn st s)
+pub encoded-slice : (st : List ℕ) (s : Session) → Slice st → Slice (encodedIn st s)
 encoded-slice st s h = by (ltb (length st) 3336)
   where
     by : (b : Bool) → Slice (pick b st (putSession st s))

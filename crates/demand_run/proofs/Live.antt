@@ -261,6 +261,7 @@ pub not-empty : NotEmpty
 not-empty = record {
   start = start;
   fresh = start-is;
+  inbox = record { bytes = nil; long = (let l = empty-length in omega (arith, l)) };
   good = does-open (lends ∷ commands ∷ undoes ∷ closes z.Clean ∷ []) lend-on;
   reset = does-open (closes z.Reset ∷ []) close-reset;
   kept = does-open (closes z.Kept ∷ []) close-kept;

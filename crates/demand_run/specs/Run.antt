@@ -115,6 +115,7 @@ closes c = record { call = k.Close; undo = noUndo; result = λ o. o ≡ u.Closed
 pub record NotEmpty : Type 1 where
   pub start : Stand
   pub fresh : Start start
+  pub inbox : Slice (start .inbox)
   -- every call is good
   pub good : Does (opens ∷ lends ∷ commands ∷ undoes ∷ closes z.Clean ∷ []) start
   -- a command of the closing fails and the reset is good, or fails too
