@@ -40,7 +40,7 @@ use Rattle.card_run.specs.Can.{Slice}
 use Rattle.card_run.proofs.Courses.{zeros}
 use Rattle.demand.specs.Events.{Input, callMake, callAnswer, Event, Stand}
 use Rattle.demand.specs.Demand.{hasReturned}
-use Rattle.demand_run.specs.Run.{Takes, Chapter, Does, opens, fails, lends, commands, undoes, quiesces, closes, NotEmpty}
+use Rattle.demand_run.specs.Run.{Accepts, Chapter, Does, opens, fails, lends, commands, undoes, quiesces, closes, NotEmpty}
 use Rattle.demand_run.specs.Bytes.{TypedUndo, TypedList, Promise, AbiChapter, AbiDoes, simple, hcaOpens, hcaFails, hcaLends, hcaCommands, hcaUndoes, hcaQuiesces, hcaCloses, NotEmptyBytes}
 use Rattle.demand_run.proofs.Lift.{no-record, onBytes, Held, encoded-slice, goes, call-goes}
 use Rattle.demand_run.proofs.Live.{not-empty}
@@ -93,7 +93,7 @@ lifted promise [] [] a st x h d = tt
 lifted promise [] (b ∷ bs) a st x h d = absurd a
 lifted promise (c ∷ cs) [] a st x h d = absurd a
 lifted promise (c ∷ cs) (b ∷ bs) a st x h (e, m, (input, is, top), t, r, told, more) =
-    let one = call-goes st x m h (c .call) input (e .inbox) (e .outbox) (c .undo) (subst (λ (y : Event). Takes x y m) (event-is e (callMake (c .call) input) (c .undo) is top) t)
+    let one = call-goes st x m h (c .call) input (e .inbox) (e .outbox) (c .undo) (subst (λ (y : Event). Accepts x y m) (event-is e (callMake (c .call) input) (c .undo) is top) t)
     (b .kind) (b .op) (b .opMod) (b .inMod) (b .value) (b .list) (b .count) (a .0 .call) (a .0 .undo) (a .0 .typed) (a .0 .listed) promise in
     let rest = goes promise (r .events) (one .1) m (r .end) (one .6) (r .run) in (
       one .0,

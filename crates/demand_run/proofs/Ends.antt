@@ -37,7 +37,7 @@ use Rattle.demand.specs.Demand.{GivesBack, hasReturned}
 use Rattle.demand.proofs.Questions.{asked-shown}
 use Rattle.demand.proofs.Inbox.{step-length}
 use Rattle.demand.proofs.Demand.{Inv, Post, lent-given, in-good, step-taken, busy-of, answered-by, quiet, step, starts}
-use Rattle.demand_run.specs.Run.{Run, Takes, Returns, Finishes}
+use Rattle.demand_run.specs.Run.{Run, Accepts, Returns, Finishes}
 use Rattle.card.proofs.Bools.{and-true}
 
 -- A REPLY that is always possible
@@ -88,7 +88,7 @@ module _ (x : Stand) (q : Ask) (r : Reply q) (m : Lent) (v : World) (a : Answer)
     pub room : Whole m → isLent (x .inbox) (m .outbox) (m .undo) ≡ true
     room w = lent-good (x .inbox) m l w
 
-    pub answers : Allowed (x .inbox) (x .world) q → Whole m → WorldStep (x .world) q r v → SizedAnswer a × Slice res → Takes x (event (callAnswer a res) (x .inbox) m) behind
+    pub answers : Allowed (x .inbox) (x .world) q → Whole m → WorldStep (x .world) q r v → SizedAnswer a × Slice res → Accepts x (event (callAnswer a res) (x .inbox) m) behind
     answers al w st fit = record { step = step-on; taken = taken; typed = fit; lent = w }
       where
         turned : answerOf (x .session) a res (x .inbox) (m .outbox) (m .undo) ≡ stepOf (x .session) a res (x .inbox) (m .outbox) (m .undo)
@@ -191,7 +191,7 @@ module _ (k : Host) (log : k .log ≡ []) (in-none : k .inbox ≡ none) (out-non
           next : Stand
           next = behind x y r m v a res
 
-          st : Takes x (event (callAnswer a res) (x .inbox) m) next
+          st : Accepts x (event (callAnswer a res) (x .inbox) m) next
           st = answers x y r m v a res (i .long p) (i .alive .0) (fol₁ .0) q al ok st₁ (small, few)
 
           onto : (j : Inv base k next) × (j .there ≡ hereAfter (x .session) a res (here (x .inbox) (i .there .outbox) (i .there .undo)) m) × GivesBack (x .world) (next .world)

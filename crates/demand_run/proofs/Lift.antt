@@ -36,8 +36,8 @@ use Rattle.card_run.specs.Can.{Slice, SizedAnswer, noUndo, Whole}
 use Rattle.card_run.proofs.Courses.{zeros}
 use Rattle.demand.specs.Events.{Input, callMake, callAnswer, Event, turnBy, inboxBy, asked, Stand, Happens, SameBox, boxLeft, callsBy, beganNow, lentBy, lentNow, lendsTo, Step}
 use Rattle.demand_abi.specs.Linked.{AbiCall, hcaCall, hcaAnswer, AbiEvent, leaves, next, callWith, answerWith, inputOf, AbiHappens, abiCalls, abiBegan, AbiSized, AbiStand, isTaken, AbiStep}
-use Rattle.demand_run.specs.Run.{Takes, IsAnswer, Answers}
-use Rattle.demand_run.specs.Bytes.{TypedCall, TypedUndo, TypedList, TypedEvent, Promise, AbiTakes, IsHcaAnswer, AbiAnswers}
+use Rattle.demand_run.specs.Run.{Accepts, IsAnswer, AnswersRun}
+use Rattle.demand_run.specs.Bytes.{TypedCall, TypedUndo, TypedList, TypedEvent, Promise, AbiAccepts, IsHcaAnswer, AbiAnswersRun}
 use Rattle.demand_run.proofs.Octets.{words-bytes, step-bytes, call-bytes}
 
 -- AN ANSWER AS NUMBERS
@@ -183,7 +183,7 @@ encoded-slice st s h = by (ltb (length st) 3336)
     by false = record { bytes = words-bytes st 0 (sessionWords s) (h .bytes); long = (let l = length-words st 0 (sessionWords s) in let n = h .long in omega (arith, l, n)) }
 
 -- ONE EVENT, where its numbers stand for the one by value
-module _ (st : List ℕ) (x m : Stand) (h : Held st x) (ev : Event) (t : Takes x ev m) (call : AbiCall) (list : List Undo) (count : ℕ) where
+module _ (st : List ℕ) (x m : Stand) (h : Held st x) (ev : Event) (t : Accepts x ev m) (call : AbiCall) (list : List Undo) (count : ℕ) where
   abbrev here : AbiEvent
   here = record { call = call; inbox = ev .inbox; outbox = ev .outbox; list = list; count = count; out = blankOut }
 
@@ -206,7 +206,7 @@ module _ (st : List ℕ) (x m : Stand) (h : Held st x) (ev : Event) (t : Takes x
   abbrev left : List ℕ
   left = leaves st here .state
 
-  goes-on : Promise → Same → AbiTakes (onBytes st x) here (onBytes left m) × Held left m
+  goes-on : Promise → Same → AbiAccepts (onBytes st x) here (onBytes left m) × Held left m
   unfolding Holds Keeps
   goes-on promise z = (
     record {
@@ -276,7 +276,7 @@ module _ (st : List ℕ) (x m : Stand) (h : Held st x) (ev : Event) (t : Takes x
       holds = promise st here (h .slice) typed
 
 -- AN ANSWER
-module _ (st : List ℕ) (x m : Stand) (h : Held st x) (v : Answer) (r i o : List ℕ) (u : Top) (t : Takes x (record { call = callAnswer v r; inbox = i; outbox = o; undo = u }) m) where
+module _ (st : List ℕ) (x m : Stand) (h : Held st x) (v : Answer) (r i o : List ℕ) (u : Top) (t : Accepts x (record { call = callAnswer v r; inbox = i; outbox = o; undo = u }) m) where
   abbrev answer-call : AbiCall
   answer-call = hcaAnswer (kindOf v) (firstOf v) (secondOf v) r
 
@@ -310,14 +310,14 @@ module _ (st : List ℕ) (x m : Stand) (h : Held st x) (v : Answer) (r i o : Lis
 pub record Going (st : List ℕ) (x y : Stand) : Type 1 where
   pub events : List AbiEvent
   pub state : List ℕ
-  pub run : AbiAnswers events (onBytes st x) (onBytes state y)
+  pub run : AbiAnswersRun events (onBytes st x) (onBytes state y)
   pub held : Held state y
 
-pub goes : Promise → (es : List Event) (st : List ℕ) (x y : Stand) → Held st x → Answers es x y → Going st x y
+pub goes : Promise → (es : List Event) (st : List ℕ) (x y : Stand) → Held st x → AnswersRun es x y → Going st x y
 goes promise [] st x y h e = record { events = []; state = st; run = ap (onBytes st) e; held = subst (Held st) e h }
 goes promise (e ∷ es) st x y h (m, t, is, more) = by (e .call) (e .inbox) (e .outbox) (e .undo) t is (λ s k. goes promise es s m y k more)
   where
-    by : (c : Input) (i o : List ℕ) (u : Top) → Takes x (record { call = c; inbox = i; outbox = o; undo = u }) m → IsAnswer c → ((s : List ℕ) → Held s m → Going s m y) → Going st x y
+    by : (c : Input) (i o : List ℕ) (u : Top) → Accepts x (record { call = c; inbox = i; outbox = o; undo = u }) m → IsAnswer c → ((s : List ℕ) → Held s m → Going s m y) → Going st x y
     by (callMake c z) i o u t is on = absurd is
     by (callAnswer v r) i o u t is on =
         let ev : Event = record { call = callAnswer v r; inbox = i; outbox = o; undo = u } in
@@ -326,7 +326,7 @@ goes promise (e ∷ es) st x y h (m, t, is, more) = by (e .call) (e .inbox) (e .
         record { events = here st x m h ev t (answer-call st x m h v r i o u t) (listOf u) (u .count) ∷ rest .events; state = rest .state; run = (_, one .0, tt, rest .run); held = rest .held }
 
 -- A CALL, by numbers that stand for it
-module _ (st : List ℕ) (x m : Stand) (h : Held st x) (c : Call) (y i o : List ℕ) (u : Top) (t : Takes x (record { call = callMake c y; inbox = i; outbox = o; undo = u }) m)
+module _ (st : List ℕ) (x m : Stand) (h : Held st x) (c : Call) (y i o : List ℕ) (u : Top) (t : Accepts x (record { call = callMake c y; inbox = i; outbox = o; undo = u }) m)
     (j op mo n val : ℕ) (l : List Undo) (count : ℕ) (named : callFrom j op mo n val (anyReserved (drop val (take count l))) ≡ value c) (tops : topOf l count ≡ u)
     (typed : (j < 2 ^ 32) × (op < 2 ^ 16) × (mo < 2 ^ 8) × (n < 2 ^ 32) × (val < 2 ^ 64)) (listed : TypedList l count) where
   in-call : (callable (x .session) c ≡ true) × (lentFor c y i o u ≡ true)
@@ -357,7 +357,7 @@ module _ (st : List ℕ) (x m : Stand) (h : Held st x) (c : Call) (y i o : List 
     listed = listed;
   }
 
-  pub call-goes : Promise → (e : AbiEvent) × (s : List ℕ) × (e .call ≡ hcaCall j op mo n val y) × (e .list ≡ l) × (e .count ≡ count) × AbiTakes (onBytes st x) e (onBytes s m) × Held s m
+  pub call-goes : Promise → (e : AbiEvent) × (s : List ℕ) × (e .call ≡ hcaCall j op mo n val y) × (e .list ≡ l) × (e .count ≡ count) × AbiAccepts (onBytes st x) e (onBytes s m) × Held s m
   call-goes promise =
       let ev : Event = record { call = callMake c y; inbox = i; outbox = o; undo = u } in
       let one = goes-on st x m h ev t (hcaCall j op mo n val y) l count promise call-same in

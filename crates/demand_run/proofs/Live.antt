@@ -40,7 +40,7 @@ use Rattle.demand.specs.Events.{callMake, asked, Stand, Happens, SameBox, boxLe
 use Rattle.demand.specs.Demand.{Start}
 use Rattle.demand.proofs.Inbox.{call-length}
 use Rattle.demand.proofs.Demand.{Inv, in-good, begun-lends, begun-taken, made-by, starts}
-use Rattle.demand_run.specs.Run.{Takes, Chapter, Does, opens, fails, lends, nop, commands, oneUndo, undoes, quiesces, closes, NotEmpty}
+use Rattle.demand_run.specs.Run.{Accepts, Chapter, Does, opens, fails, lends, nop, commands, oneUndo, undoes, quiesces, closes, NotEmpty}
 use Rattle.demand_run.proofs.Ends.{event, lent-good, along}
 
 -- A CALL THAT IS TAKEN, and the stand behind it
@@ -58,7 +58,7 @@ module _ (x : Stand) (d : Call) (input : List ℕ) (m : Lent) where
     lent₁ : lentFor d input (x .inbox) (m .outbox) (m .undo) ≡ true
     lent₁ = and-true (isLent (x .inbox) (m .outbox) (m .undo)) (hasRoom d input) (lent-good (x .inbox) m l ok) room
 
-    takes : Slice input → Takes x (event (callMake d input) (x .inbox) m) begun
+    takes : Slice input → Accepts x (event (callMake d input) (x .inbox) m) begun
     takes fit = record { step = step-on; taken = taken; typed = fit; lent = ok }
       where
         turned : callOf (x .session) d input (x .inbox) (m .outbox) (m .undo) ≡ begunTurn (x .session) d input (x .inbox) (m .undo)

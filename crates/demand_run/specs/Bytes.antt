@@ -1,7 +1,9 @@
--- Demand 3 over C linkage (demand_abi/specs/Linked.antt) is not empty either: the stories of Run.antt go on bytes that
--- `hca_fresh` has written, through `hca_call` and `hca_answer`, each taken with code 0; `hca_question` tells when a call has
--- returned, and `hca_result` tells the words that stand here. It is said under one premise, `Promise`: the second half of the
--- contracts of `hca_call` and `hca_answer`, which linkage proves. The theorem is `bytes-not-empty` of proofs/Bytes.antt.
+-- Demand 3 over C linkage (demand_abi/specs/Linked.antt) is not empty either: the stories of
+-- Run.antt go on bytes that `hca_fresh` has written, through `hca_call` and `hca_answer`, each
+-- taken with code 0; `hca_question` tells when a call has returned, and `hca_result` tells the
+-- words that stand here. It is said under one premise, `Promise`: the second half of the contracts
+-- of `hca_call` and `hca_answer`, which linkage proves. The theorem is `bytes-not-empty` of
+-- proofs/Bytes.antt.
 use Prim.Native.Nat.{ℕ, _<_, _^_}
 use mathlib.Core.List.{List, [], _∷_}
 use mathlib.Core.Path.{_≡_}
@@ -45,7 +47,7 @@ abbrev pub Promise : Type 0
 Promise = (state : List ℕ) (e : AbiEvent) → Slice state → TypedEvent e → Holds state (leaves state e .state) (next e)
 
 -- AN EVENT THAT IS TAKEN: the bytes hold a session, and the call gives 0
-pub record AbiTakes (x : AbiStand) (e : AbiEvent) (y : AbiStand) : Type 1 where
+pub record AbiAccepts (x : AbiStand) (e : AbiEvent) (y : AbiStand) : Type 1 where
   pub session : Session
   pub held : decodeOf (x .state) ≡ value session
   pub step : AbiStep x session e y
@@ -56,19 +58,19 @@ abbrev pub IsHcaAnswer : AbiCall → Type 0
 IsHcaAnswer (hcaCall j op m n x y) = ⊥
 IsHcaAnswer (hcaAnswer j a b r) = Unit {0}
 
-abbrev pub AbiAnswers : List AbiEvent → AbiStand → AbiStand → Type 1
-AbiAnswers [] x y = x ≡ y
-AbiAnswers (e ∷ es) x y = (m : AbiStand) × AbiTakes x e m × IsHcaAnswer (e .call) × AbiAnswers es m y
+abbrev pub AbiAnswersRun : List AbiEvent → AbiStand → AbiStand → Type 1
+AbiAnswersRun [] x y = x ≡ y
+AbiAnswersRun (e ∷ es) x y = (m : AbiStand) × AbiAccepts x e m × IsHcaAnswer (e .call) × AbiAnswersRun es m y
 
 -- they lead to bytes of which hca_question tells that nothing is asked
 pub record AbiReturns (x : AbiStand) : Type 1 where
   pub events : List AbiEvent
   pub end : AbiStand
-  pub run : AbiAnswers events x end
+  pub run : AbiAnswersRun events x end
   pub returned : (w : List ℕ) → question (end .state) w ≡ given 4 w (0 ∷ 0 ∷ 0 ∷ 0 ∷ [])
 
--- A STORY, chapter by chapter: the numbers of an hca_call, the undo records that are lent with it, and what the five words of
--- hca_result are when the call has returned
+-- A STORY, chapter by chapter: the numbers of an hca_call, the undo records that are lent with it,
+-- and what the five words of hca_result are when the call has returned
 pub record AbiChapter : Type 1 where
   pub kind : ℕ
   pub op : ℕ
@@ -91,14 +93,15 @@ Reads c s = (ws : List ℕ) × c .result ws × ((w : List ℕ) → result s w �
 abbrev pub AbiDoes : List AbiChapter → AbiStand → Type 1
 AbiDoes [] x = Unit {1}
 AbiDoes (c ∷ l) x =
-    (e : AbiEvent) × (m : AbiStand) × AbiBegins c e × AbiTakes x e m
+    (e : AbiEvent) × (m : AbiStand) × AbiBegins c e × AbiAccepts x e m
     × (r : AbiReturns m) × Reads c (r .end .state) × AbiDoes l (r .end)
 
 -- THE CHAPTERS. A call with no undo records, by its kind and value
 abbrev pub simple : (kind value : ℕ) → (List ℕ → Type 0) → AbiChapter
 simple k v r = record { kind = k; op = 0; opMod = 0; inMod = 0; value = v; list = []; count = 0; result = r }
 
--- an opening is good, or fails, with this number for its closing: 0 clean, 1 by the reset, 2 all is kept
+-- an opening is good, or fails, with this number for its closing: 0 clean, 1 by the reset, 2 all is
+-- kept
 abbrev pub hcaOpens : AbiChapter
 hcaOpens = simple 0 0 (λ w. w ≡ 2 ∷ 0 ∷ 0 ∷ 0 ∷ 0 ∷ [])
 

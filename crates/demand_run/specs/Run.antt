@@ -35,7 +35,7 @@ abbrev pub OfTypes : Input → Type 0
 OfTypes (callMake c y) = Slice y
 OfTypes (callAnswer a r) = SizedAnswer a × Slice r
 
-pub record Takes (x : Stand) (e : Event) (y : Stand) : Type 1 where
+pub record Accepts (x : Stand) (e : Event) (y : Stand) : Type 1 where
   pub step : Step x e y
   pub taken : turn (x .session) e .refusal ≡ f.Nothing
   pub typed : OfTypes (e .call)
@@ -46,15 +46,15 @@ abbrev pub IsAnswer : Input → Type 0
 IsAnswer (callMake c y) = ⊥
 IsAnswer (callAnswer a r) = Unit {0}
 
-abbrev pub Answers : List Event → Stand → Stand → Type 1
-Answers [] x y = x ≡ y
-Answers (e ∷ es) x y = (m : Stand) × Takes x e m × IsAnswer (e .call) × Answers es m y
+abbrev pub AnswersRun : List Event → Stand → Stand → Type 1
+AnswersRun [] x y = x ≡ y
+AnswersRun (e ∷ es) x y = (m : Stand) × Accepts x e m × IsAnswer (e .call) × AnswersRun es m y
 
 -- they lead to a stand where nothing is asked, and these calls were taken
 pub record Returns (x : Stand) (l : List Call) : Type 1 where
   pub events : List Event
   pub end : Stand
-  pub run : Answers events x end
+  pub run : AnswersRun events x end
   pub returned : hasReturned (asksOf (end .session)) ≡ true
   pub calls : end .calls ≡ l
 
@@ -77,7 +77,7 @@ Begins c e = (input : List ℕ) × (e .call ≡ callMake (c .call) input) × (e 
 abbrev pub Does : List Chapter → Stand → Type 1
 Does [] x = Unit {1}
 Does (c ∷ l) x =
-    (e : Event) × (m : Stand) × Begins c e × Takes x e m
+    (e : Event) × (m : Stand) × Begins c e × Accepts x e m
     × (r : Returns m (c .call ∷ x .calls)) × c .result (outcomeOf (r .end .session)) × Does l (r .end)
 
 -- THE CHAPTERS. An opening is good, or fails with this result of its closing
