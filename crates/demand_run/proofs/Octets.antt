@@ -7,6 +7,7 @@ use lib.Dec.{eqb}
 use lib.ListN.{length, set, replicate}
 use Rattle.fields.specs.Fields.{putDigits, putAt, placeOf}
 use Rattle.fields.specs.Outcome.{pick}
+use Rattle.fields.specs.declared.Order.{Order}
 use Rattle.fields.specs.declared.Order.the-variants.{Big}
 use Rattle.fields.proofs.Laws.{Bytes}
 use Rattle.words.specs.Words.{putWords}
@@ -49,24 +50,24 @@ unfolding putDigits
 digits-bytes s place zero v b = b
 digits-bytes s place (suc n) v b = digits-bytes (set s (place n) (v % 256)) place n (v / 256) (set-bytes s (place n) (v % 256) b (omega arith))
 
-put-bytes : (s : List ℕ) (o n v : ℕ) → Bytes s → Bytes (putAt Big s o n v)
-put-bytes s o n v b = digits-bytes s (placeOf Big o n) n v b
+put-bytes : (d : Order) (s : List ℕ) (o n v : ℕ) → Bytes s → Bytes (putAt d s o n v)
+put-bytes d s o n v b = digits-bytes s (placeOf d o n) n v b
 
 pub words-bytes : (s : List ℕ) (i : ℕ) (ws : List ℕ) → Bytes s → Bytes (putWords s i ws)
 unfolding putWords
 words-bytes s i [] b = b
-words-bytes s i (x ∷ ws) b = words-bytes (putAt Big s (i * 8) 8 x) (i + 1) ws (put-bytes s (i * 8) 8 x b)
+words-bytes s i (x ∷ ws) b = words-bytes (putAt Big s (i * 8) 8 x) (i + 1) ws (put-bytes Big s (i * 8) 8 x b)
 
 -- MAILBOXES
 all-bytes : (s : List ℕ) (fs : List Field) → Bytes s → Bytes (putAll s fs)
 unfolding putAll
 all-bytes s [] b = b
-all-bytes s (x ∷ fs) b = all-bytes (putAt Big s (x .offset) (x .width) (x .value)) fs (put-bytes s (x .offset) (x .width) (x .value) b)
+all-bytes s (x ∷ fs) b = all-bytes (putAt Big s (x .offset) (x .width) (x .value)) fs (put-bytes Big s (x .offset) (x .width) (x .value) b)
 
 list-bytes : (s : List ℕ) (i : ℕ) (bs : List Block) → Bytes s → Bytes (listAt s i bs)
 unfolding listAt
 list-bytes s i [] b = b
-list-bytes s i (x ∷ bs) b = list-bytes (entryAt s i x) (suc i) bs (put-bytes (putAt Big s (i * 16) 8 (x .virt)) (i * 16 + 8) 8 (wordOf x) (put-bytes s (i * 16) 8 (x .virt) b))
+list-bytes s i (x ∷ bs) b = list-bytes (entryAt s i x) (suc i) bs (put-bytes Big (putAt Big s (i * 16) 8 (x .virt)) (i * 16 + 8) 8 (wordOf x) (put-bytes Big s (i * 16) 8 (x .virt) b))
 
 over-bytes : (y s : List ℕ) → Bytes y → Bytes s → Bytes (over y s)
 unfolding over
