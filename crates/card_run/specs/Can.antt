@@ -16,7 +16,7 @@ use Rattle.session.specs.declared.Top.{Top}
 use Rattle.card.specs.Card.{World, WorldStep}
 use Rattle.card_calls.specs.SafeCourse.{Lendable}
 
--- a slice of bytes, so short that some of them have room in one memory
+-- a slice of bytes, so short that a call's slices have room in one memory
 pub record Slice (s : List ℕ) : Type 0 where
   pub bytes : (k : ℕ) → getD s k 0 < 256
   pub long : length s < 2 ^ 32

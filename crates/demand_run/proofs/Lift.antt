@@ -1,4 +1,5 @@
--- A RUN BY VALUE GOES ON BYTES: an event that is taken by value is taken on bytes that hold the session, and leaves bytes that hold the session behind it.
+-- A RUN BY VALUE GOES ON BYTES: an event that is taken by value is taken on bytes that hold the
+-- session, and leaves bytes that hold the session behind it.
 use Prim.Native.Nat.{ℕ, zero, suc, _≤_, _<_, _^_}
 use native.Mathlib.Omega.{arith}
 use mathlib.Core.Bool.{Bool, true, false, _&&_, false≢true}

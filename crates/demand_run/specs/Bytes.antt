@@ -1,9 +1,9 @@
 -- Demand 3 over C linkage (demand_abi/specs/Linked.antt) is not empty either: the stories of
--- Run.antt go on bytes that `hca_fresh` has written, through `hca_call` and `hca_answer`, each
--- taken with code 0; `hca_question` tells when a call has returned, and `hca_result` tells the
--- words that stand here. It is said under one premise, `Promise`: the second half of the contracts
--- of `hca_call` and `hca_answer`, which linkage proves. The theorem is `bytes-not-empty` of
--- proofs/Bytes.antt.
+-- Run.antt go on bytes that `hca_fresh` has written, through `hca_call` and `hca_answer`, each of
+-- which gives 0. `hca_question` tells when a call has returned, and `hca_result` then tells the
+-- words that stand here. There is one premise, `Promise`: what `Linked` takes at each event
+-- (`holds`), the second half of the contracts of `hca_call` and `hca_answer`, which linkage proves
+-- of arguments of their types. The theorem is `bytes-not-empty` of proofs/Bytes.antt.
 use Prim.Native.Nat.{ℕ, _<_, _^_}
 use mathlib.Core.List.{List, [], _∷_}
 use mathlib.Core.Path.{_≡_}
@@ -21,7 +21,8 @@ use Rattle.abi.specs.Readers.{given, question, result}
 use Rattle.card_run.specs.Can.{Slice}
 use Rattle.demand_abi.specs.Linked.{AbiCall, hcaCall, hcaAnswer, AbiEvent, leaves, next, UndoSized, AbiStand, AbiStep, AbiStart}
 
--- ARGUMENTS OF THEIR TYPES, those of linkage/src/lib.rt
+-- ARGUMENTS OF THEIR TYPES, those of linkage/src/lib.rt; and no slice is so long that all of them
+-- have no room in one memory
 abbrev pub TypedCall : AbiCall → Type 0
 TypedCall (hcaCall j op m n x y) = (j < 2 ^ 32) × (op < 2 ^ 16) × (m < 2 ^ 8) × (n < 2 ^ 32) × (x < 2 ^ 64) × Slice y
 TypedCall (hcaAnswer j a b r) = (j < 2 ^ 32) × (a < 2 ^ 64) × (b < 2 ^ 64) × Slice r

@@ -29,8 +29,7 @@ abbrev pub Run : List Event → Stand → Stand → Type 1
 Run [] x y = x ≡ y
 Run (e ∷ es) x y = (m : Stand) × Step x e m × Run es m y
 
--- AN EVENT THAT IS TAKEN, of bytes and numbers of their types, with mailboxes of 4,096 bytes and an
--- undo list
+-- AN EVENT THAT IS TAKEN: bytes and numbers of their types, whole mailboxes and an undo list
 abbrev pub OfTypes : Input → Type 0
 OfTypes (callMake c y) = Slice y
 OfTypes (callAnswer a r) = SizedAnswer a × Slice r
