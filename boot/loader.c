@@ -22,7 +22,7 @@ typedef struct {
 static UINT64 word(const UINT8 *bytes, UINTN i)
 {
     UINT64 v = 0;
-    for (UINTN k = 0; k < WORD; k++)
+    for (UINTN k = WORD; k-- > 0;)
         v = v << 8 | bytes[WORD * i + k];
     return v;
 }

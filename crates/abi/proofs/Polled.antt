@@ -7,7 +7,7 @@ use mathlib.Core.Path.{_≡_, refl, ap, sym, subst, _∙_}
 use borrow.Author.Tests.{le-leb, ltb-true}
 use lib.Dec.{eqb}
 use Rattle.fields.specs.Outcome.{value}
-use Rattle.fields.specs.declared.Order.the-variants.{Big}
+use Rattle.fields.specs.declared.Order.the-variants.{Little}
 use Rattle.fields.proofs.Laws.{Bytes, number-lt}
 use Rattle.words.specs.Words.{at, wordAt, wordsIn}
 use Rattle.words_task.specs.Coding.{taskWords, taskOf, cmdOf, catasOf}
@@ -53,10 +53,10 @@ cmd-small s b = record {
   op = omega arith;
   op-mod = omega arith;
   in-mod = omega arith;
-  in-param = number-lt Big s 48 8 b;
-  out-param = number-lt Big s 56 8 b;
+  in-param = number-lt Little s 48 8 b;
+  out-param = number-lt Little s 56 8 b;
   stalls = omega arith;
-  catas = by-tag (wordAt s 10) (wordAt s 11) (wordAt s 12) (number-lt Big s 96 8 b);
+  catas = by-tag (wordAt s 10) (wordAt s 11) (wordAt s 12) (number-lt Little s 96 8 b);
 }
 
 abbrev cmdOr : Cmd → Task → Cmd

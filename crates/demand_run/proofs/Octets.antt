@@ -8,7 +8,7 @@ use lib.ListN.{length, set, replicate}
 use Rattle.fields.specs.Fields.{putDigits, putAt, placeOf}
 use Rattle.fields.specs.Outcome.{pick}
 use Rattle.fields.specs.declared.Order.{Order}
-use Rattle.fields.specs.declared.Order.the-variants.{Big}
+use Rattle.fields.specs.declared.Order.the-variants.{Big, Little}
 use Rattle.fields.proofs.Laws.{Bytes}
 use Rattle.words.specs.Words.{putWords}
 use Rattle.dma.specs.PageList.{listAt, entryAt, wordOf, firstBlocks}
@@ -56,7 +56,7 @@ put-bytes d s o n v b = digits-bytes s (placeOf d o n) n v b
 pub words-bytes : (s : List ℕ) (i : ℕ) (ws : List ℕ) → Bytes s → Bytes (putWords s i ws)
 unfolding putWords
 words-bytes s i [] b = b
-words-bytes s i (x ∷ ws) b = words-bytes (putAt Big s (i * 8) 8 x) (i + 1) ws (put-bytes Big s (i * 8) 8 x b)
+words-bytes s i (x ∷ ws) b = words-bytes (putAt Little s (i * 8) 8 x) (i + 1) ws (put-bytes Little s (i * 8) 8 x b)
 
 -- MAILBOXES
 all-bytes : (s : List ℕ) (fs : List Field) → Bytes s → Bytes (putAll s fs)

@@ -1,4 +1,6 @@
 // An item of the input: a kind and two values, and the number of bytes that follow it, of 1, 8, 8 and 2 bytes.
+use fields::Order;
+use fields::Read64;
 use libc::STDIN_FILENO;
 
 pub(crate) struct Item {
@@ -29,16 +31,16 @@ impl Item {
 }
 
 // The number of so many bytes at a place, or 0 where it passes the end.
-fn number(s: &[u8], at: usize, width: usize) -> u64 {
-    match fields::field(s, fields::Order::Big, at, width) {
-        fields::Read64::Value(v) => v,
-        fields::Read64::Short => 0,
+fn number(s: &[u8], order: Order, at: usize, width: usize) -> u64 {
+    match fields::field(s, order, at, width) {
+        Read64::Value(v) => v,
+        Read64::Short => 0,
     }
 }
 
-// Word k.
+// Word k of what a session says; those of an item are big-endian.
 pub(crate) fn word(s: &[u8], k: u16) -> u64 {
-    number(s, k as usize * 8, 8)
+    number(s, Order::Little, k as usize * 8, 8)
 }
 
 // The opcode, its modifier and the input modifier, which a call and an undo record have in one value.
@@ -65,10 +67,10 @@ fn end() -> Item {
 
 fn read(head: &[u8]) -> Item {
     Item {
-        kind: (number(head, 0, 1) % 256) as u8,
-        a: number(head, 1, 8),
-        b: number(head, 9, 8),
-        bytes: (number(head, 17, 2) % 65536) as u16,
+        kind: (number(head, Order::Big, 0, 1) % 256) as u8,
+        a: number(head, Order::Big, 1, 8),
+        b: number(head, Order::Big, 9, 8),
+        bytes: (number(head, Order::Big, 17, 2) % 65536) as u16,
     }
 }
 

@@ -1,10 +1,11 @@
-// Words of eight bytes, the byte of the greatest weight first, in a slice of bytes: how a session is kept between two calls.
+// Words of eight bytes, the byte of the least weight first, in a slice of bytes: how a session is kept between two calls.
 ghost use mathlib.Core.Bool.{false};
 ghost use mathlib.Core.Path.{_≡_};
 ghost use Prim.Native.Nat.{_+_, _*_, _%_, _<_, _≤_};
 ghost use lib.ListN.{length};
 ghost use lib.Dec.{eqb};
-ghost use Rattle.fields.specs.Fields.{be};
+ghost use Rattle.fields.specs.Fields.{numberAt};
+ghost use Rattle.fields.specs.declared.Order.the-variants.{Little};
 ghost use Rattle.fields.specs.Outcome.{pick};
 ghost use Rattle.words.specs.Words.{wordAt, wordsIn, putWords, sameWords, within, bitOf};
 
@@ -28,9 +29,9 @@ fn byte(x: u8) -> u64
 // Four bytes, read one by one and without a test, so that they are one load.
 fn half(s: &[u8], off: usize) -> u64
     requires { ⌜ off + 4 ≤ length (now s) ⌝ }
-    ensures { λ r. ⌜ r ≡ be (now (s .entry)) off 4 ⌝ }
+    ensures { λ r. ⌜ r ≡ numberAt Little (now (s .entry)) off 4 ⌝ }
 {
-    ((byte(s[off]) * 256 + byte(s[off + 1])) * 256 + byte(s[off + 2])) * 256 + byte(s[off + 3])
+    ((byte(s[off + 3]) * 256 + byte(s[off + 2])) * 256 + byte(s[off + 1])) * 256 + byte(s[off])
 }
 
 // Word k. Two halves are two loads, where eight bytes in one sum are eight.
@@ -38,7 +39,7 @@ fn word(s: &[u8], k: usize) -> u64
     requires { ⌜ (k + 1) * 8 ≤ length (now s) ⌝ }
     ensures { λ r. ⌜ r ≡ wordAt (now (s .entry)) k ⌝ }
 {
-    half(s, k * 8) * 4294967296 + half(s, k * 8 + 4)
+    half(s, k * 8 + 4) * 4294967296 + half(s, k * 8)
 }
 
 fn load_all(s: &[u8], k: usize, w: &mut [u64])
@@ -58,7 +59,7 @@ fn store_all(s: &mut [u8], k: usize, w: &[u64])
 {
     let mut i: usize = 0;
     while i < w.len() {
-        fields::set_be64(s, (k + i) * 8, w[i]);
+        fields::set_le64(s, (k + i) * 8, w[i]);
         i = i + 1;
     }
 }

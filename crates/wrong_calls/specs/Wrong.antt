@@ -57,7 +57,7 @@ said y = y .code ∷ y .out
 
 -- a poll: its number, the phase and the stalls in the bytes, the kind of the question and its first value
 abbrev polling : After → List ℕ
-polling y = y .code ∷ getD (y .state) 15 0 ∷ getD (y .state) 79 0 ∷ getD (y .out) 7 0 ∷ getD (y .out) 15 0 ∷ []
+polling y = y .code ∷ getD (y .state) 8 0 ∷ getD (y .state) 72 0 ∷ getD (y .out) 0 0 ∷ getD (y .out) 8 0 ∷ []
 
 -- a call that is wanted: 0 and the call, or 20
 abbrev callWords : Call → List ℕ
@@ -115,10 +115,10 @@ reserved y = record { form = y; op = 0x008; «op_mod» = 0; «in_mod» = 0; «in
 
 -- bytes that have the count of ranges at 15; bytes with a command that is polled, toggle 1
 abbrev noSession : List ℕ
-noSession = set (replicate 3336 0) 175 15
+noSession = set (replicate 3336 0) 168 15
 
 abbrev polled : (phase stalls : ℕ) → List ℕ
-polled y n = set (set (set (set (replicate 3336 0) 7 8) 15 y) 71 1) 79 n
+polled y n = set (set (set (set (replicate 3336 0) 0 8) 8 y) 64 1) 72 n
 
 -- fw_begin, fw: an answer to the open question
 abbrev pub answering : List Row
@@ -238,12 +238,12 @@ turning =
     row (left (answerKnown sending (a.Word 5) [] (newest 2 0x20) (1 ∷ []) (2 ∷ []) (3 ∷ []) (4 ∷ []))) (21 ∷ 1 ∷ 2 ∷ 3 ∷ 4 ∷ []) (20 ∷ 1 ∷ 2 ∷ 3 ∷ 5 ∷ []) ∷
     -- taken, refused (the number, the first word of out): says what is asked now; told as good
     row (taken (refusedOf sending no.Wrong 2) [] [] [] (replicate 40 0) .code ∷ take 8 (taken (refusedOf sending no.Wrong 2) [] [] [] (replicate 40 0) .out))
-    (20 ∷ 0 ∷ 0 ∷ 0 ∷ 0 ∷ 0 ∷ 0 ∷ 0 ∷ 5 ∷ []) (0 ∷ 0 ∷ 0 ∷ 0 ∷ 0 ∷ 0 ∷ 0 ∷ 0 ∷ 5 ∷ []) ∷
+    (20 ∷ 5 ∷ 0 ∷ 0 ∷ 0 ∷ 0 ∷ 0 ∷ 0 ∷ 0 ∷ []) (0 ∷ 5 ∷ 0 ∷ 0 ∷ 0 ∷ 0 ∷ 0 ∷ 0 ∷ 0 ∷ []) ∷
     -- taken, refused (the number, the first word of the session): the session written; told as good
     row (taken (refusedOf sending no.Wrong 2) (replicate 3336 0) [] [] [] .code ∷ take 8 (taken (refusedOf sending no.Wrong 2) (replicate 3336 0) [] [] [] .state))
-    (20 ∷ 0 ∷ 0 ∷ 0 ∷ 0 ∷ 0 ∷ 0 ∷ 0 ∷ 8 ∷ []) (0 ∷ 0 ∷ 0 ∷ 0 ∷ 0 ∷ 0 ∷ 0 ∷ 0 ∷ 8 ∷ []) ∷
+    (20 ∷ 8 ∷ 0 ∷ 0 ∷ 0 ∷ 0 ∷ 0 ∷ 0 ∷ 0 ∷ []) (0 ∷ 8 ∷ 0 ∷ 0 ∷ 0 ∷ 0 ∷ 0 ∷ 0 ∷ 0 ∷ []) ∷
     -- taken, good (the number, the first word of out, the undo records): says nothing; no records left
-    row (taken (turnOf sending 2) [] [] [] (replicate 40 0) .code ∷ (take 1 (drop 7 (taken (turnOf sending 2) [] [] [] (replicate 40 0) .out)) ++ drop 39 (taken (turnOf sending 2) [] [] [] (replicate 40 0) .out)))
+    row (taken (turnOf sending 2) [] [] [] (replicate 40 0) .code ∷ (take 1 (taken (turnOf sending 2) [] [] [] (replicate 40 0) .out) ++ take 1 (drop 32 (taken (turnOf sending 2) [] [] [] (replicate 40 0) .out))))
     (0 ∷ 0 ∷ 0 ∷ []) (0 ∷ 5 ∷ 0 ∷ []) ∷
     []
 
@@ -269,11 +269,11 @@ reading =
     -- give_question, a byte too few: what fits is written; 20
     row (take 2 (said (questionKnown sending (replicate 31 9)))) (0 ∷ 0 ∷ []) (20 ∷ 9 ∷ []) ∷
     -- give_question (the number, the kind): what has become of the session; not written
-    row (take 1 (said (questionKnown sending (replicate 32 9))) ++ take 1 (drop 8 (said (questionKnown sending (replicate 32 9))))) (0 ∷ 1 ∷ []) (0 ∷ 9 ∷ []) ∷
+    row (take 1 (said (questionKnown sending (replicate 32 9))) ++ take 1 (drop 1 (said (questionKnown sending (replicate 32 9))))) (0 ∷ 1 ∷ []) (0 ∷ 9 ∷ []) ∷
     -- give_result, a byte too few: room for all but how the closing went; 20
     row (take 2 (said (resultKnown sending (replicate 39 9)))) (0 ∷ 0 ∷ []) (20 ∷ 9 ∷ []) ∷
     -- give_result (the number, the kind, how the closing went): the question; the closing not told
-    row (take 1 (said (resultKnown (over by.Nothing closing.Kept) (replicate 40 9))) ++ (take 1 (drop 8 (said (resultKnown (over by.Nothing closing.Kept) (replicate 40 9)))) ++ drop 40 (said (resultKnown (over by.Nothing closing.Kept) (replicate 40 9)))))
+    row (take 1 (said (resultKnown (over by.Nothing closing.Kept) (replicate 40 9))) ++ (take 1 (drop 1 (said (resultKnown (over by.Nothing closing.Kept) (replicate 40 9)))) ++ take 1 (drop 33 (said (resultKnown (over by.Nothing closing.Kept) (replicate 40 9))))))
     (0 ∷ 0 ∷ 0 ∷ []) (0 ∷ 4 ∷ 9 ∷ []) ∷
     -- give_setup (a call is running, out too short; open, out too short): 21 before 20; told of a running session
     row (said (setupKnown sending (4 ∷ [])) ++ said (setupKnown (having opened) (4 ∷ []))) (21 ∷ 4 ∷ 21 ∷ 4 ∷ []) (0 ∷ 0 ∷ 21 ∷ 4 ∷ []) ∷

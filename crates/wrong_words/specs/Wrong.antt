@@ -92,17 +92,17 @@ words =
     -- room (two words in 16 bytes: from 0, from 1, none from 2; two in 15): they may pass the end; a part of a word counts
     row (yes (within (zeros 16) 0 2) ∷ yes (within (zeros 16) 1 2) ∷ yes (within (zeros 16) 2 0) ∷ yes (within (zeros 15) 0 2) ∷ []) (1 ∷ 1 ∷ 1 ∷ 0 ∷ []) (1 ∷ 0 ∷ 1 ∷ 1 ∷ []) ∷
     -- load of a word: its second half one byte early; the other order
-    row (loaded bytes 0 (0 ∷ [])) (0x0102030404050607 ∷ []) (0x0807060504030201 ∷ []) ∷
+    row (loaded bytes 0 (0 ∷ [])) (0x0706050404030201 ∷ []) (0x0102030405060708 ∷ []) ∷
     -- load of two words: every other; from the next on
-    row (loaded bytes 0 (0 ∷ 0 ∷ [])) (0x0102030405060708 ∷ 0x1112131415161718 ∷ []) (0x090a0b0c0d0e0f10 ∷ 0x1112131415161718 ∷ []) ∷
+    row (loaded bytes 0 (0 ∷ 0 ∷ [])) (0x0807060504030201 ∷ 0x1817161514131211 ∷ []) (0x100f0e0d0c0b0a09 ∷ 0x1817161514131211 ∷ []) ∷
     -- load past the end: what is there; zeros
-    row (loaded bytes 2 (7 ∷ 8 ∷ [])) (0x1112131415161718 ∷ 8 ∷ []) (0 ∷ 0 ∷ []) ∷
+    row (loaded bytes 2 (7 ∷ 8 ∷ [])) (0x1817161514131211 ∷ 8 ∷ []) (0 ∷ 0 ∷ []) ∷
     -- store of two words: seven bytes apart; the other order
-    row (stored (zeros 16) 0 (1 ∷ 2 ∷ [])) (zeros 14 ++ (2 ∷ 0 ∷ [])) (1 ∷ (zeros 7 ++ (2 ∷ zeros 7))) ∷
+    row (stored (zeros 16) 0 (1 ∷ 2 ∷ [])) (1 ∷ (zeros 6 ++ (2 ∷ zeros 8))) (zeros 7 ++ (1 ∷ (zeros 7 ++ (2 ∷ [])))) ∷
     -- store past the end: what fits; at the end
-    row (stored (zeros 16) 1 (1 ∷ 2 ∷ [])) (zeros 15 ++ (1 ∷ [])) (zeros 15 ++ (2 ∷ [])) ∷
+    row (stored (zeros 16) 1 (1 ∷ 2 ∷ [])) (zeros 8 ++ (1 ∷ zeros 7)) (zeros 8 ++ (2 ∷ zeros 7)) ∷
     -- same (the same words, others, past the end): words that differ are; past the end too
-    row (sameIn (zeros 15 ++ (2 ∷ [])) 0 (0 ∷ 2 ∷ []) ∷ sameIn (zeros 15 ++ (2 ∷ [])) 0 (0 ∷ 3 ∷ []) ∷ sameIn (zeros 16) 1 (0 ∷ 0 ∷ []) ∷ []) (1 ∷ 1 ∷ 0 ∷ []) (1 ∷ 0 ∷ 1 ∷ []) ∷
+    row (sameIn (zeros 8 ++ (2 ∷ zeros 7)) 0 (0 ∷ 2 ∷ []) ∷ sameIn (zeros 8 ++ (2 ∷ zeros 7)) 0 (0 ∷ 3 ∷ []) ∷ sameIn (zeros 16) 1 (0 ∷ 0 ∷ []) ∷ []) (1 ∷ 1 ∷ 0 ∷ []) (1 ∷ 0 ∷ 1 ∷ []) ∷
     -- bit (true, false): true is 2; exchanged
     row (bitOf true ∷ bitOf false ∷ []) (2 ∷ 0 ∷ []) (0 ∷ 1 ∷ []) ∷
     -- flag (0, 1, 2): all but 0; exchanged
@@ -388,7 +388,7 @@ polling =
     -- leads with mailboxes of 4,096 bytes, and with an outbox of 4,097: the poll goes on whatever the outbox's length; with 4,097 alone
     row (leadsWith 4096 ++ leadsWith 4097) (1 ∷ 3 ∷ 1 ∷ 3 ∷ []) (0 ∷ 1 ∷ 3 ∷ []) ∷
     -- stall_next, the state: a stall is kept as a read; one word further
-    row (stallIn (zeros 24)) (zeros 15 ++ (4 ∷ zeros 8)) (zeros 23 ++ (5 ∷ [])) ∷
+    row (stallIn (zeros 24)) (zeros 8 ++ (4 ∷ zeros 15)) (zeros 16 ++ (5 ∷ zeros 7)) ∷
     -- read_next, the state (words 1, 8 and 9): the stalls are written over the toggle; the phase is left as it was
     row (wordsIn (readIn (putWords (zeros 80) 0 (tenWords 5 3)) 4) 1 1 ++ wordsIn (readIn (putWords (zeros 80) 0 (tenWords 5 3)) 4) 8 2) (4 ∷ 4 ∷ 3 ∷ []) (5 ∷ 1 ∷ 4 ∷ []) ∷
     -- stall_next, the question after 1,000 stalls: a short one; the count of undo records is not told

@@ -281,7 +281,7 @@ fn a_full_undo_list() {
 }
 
 /// A byte behind the first ten words that is 0 in every session: the highest of how many ranges there are.
-const RANGES: usize = 21 * 8;
+const RANGES: usize = 21 * 8 + 7;
 
 /// What the open question may be while a command is polled.
 fn polls(q: Question) -> bool {
@@ -405,7 +405,7 @@ fn damage(r: &mut Prng, state: &mut [u8]) {
         let word = r.pick(&[0, 1, 2, 3, small, small, 14, 15, 64, 65, 256, 0xffff_ffff, 1 << 32, u64::MAX, any]);
         match r.below(3) {
             0 => state[at + r.below(8) as usize] ^= 1 << r.below(8),
-            _ => state[at..at + 8].copy_from_slice(&word.to_be_bytes()),
+            _ => state[at..at + 8].copy_from_slice(&word.to_le_bytes()),
         }
     }
 }
@@ -476,7 +476,7 @@ fn random_bytes_are_no_session() {
 /// Words that are no question, as no call writes them.
 #[test]
 fn words_that_are_no_question() {
-    let of = |words: [u64; 4]| Question::of(&Words(&words.map(u64::to_be_bytes).concat()));
+    let of = |words: [u64; 4]| Question::of(&Words(&words.map(u64::to_le_bytes).concat()));
     assert_eq!(of([14, 0, 0, 0]), Some(Question::Fence));
     assert_eq!(of([5, 6, 7, 0]), Some(Question::RegisterRead { bar: 6, offset: 7 }));
     let none = [[15, 0, 0, 0], [u64::MAX; 4], [1, 1 << 16, 0, 0], [3, 0, 1 << 16, 0], [4, 0, 1 << 32, 0]];

@@ -73,14 +73,14 @@ pub const MAPPED: u32 = 7;
 /// `Answer::List`.
 pub const LIST: u32 = 8;
 
-/// Big-endian words of eight bytes.
+/// Little-endian words of eight bytes.
 pub struct Words<'a>(pub &'a [u8]);
 
 impl Words<'_> {
     /// Word `k`; 0 behind the end.
     pub fn at(&self, k: usize) -> u64 {
         let word = self.0.get(8 * k..8 * k + 8).and_then(|b| b.try_into().ok());
-        word.map_or(0, u64::from_be_bytes)
+        word.map_or(0, u64::from_le_bytes)
     }
 
     /// Word `k` is not 0.

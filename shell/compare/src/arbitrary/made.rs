@@ -296,7 +296,7 @@ fn damaged(r: &mut Prng, mut state: Vec<u8>) -> Vec<u8> {
         match r.below(3) {
             0 => state[at + r.below(8) as usize] ^= 1 << r.below(8),
             1 => state[at + r.below(8) as usize] = any as u8,
-            _ => state[at..at + 8].copy_from_slice(&word.to_be_bytes()),
+            _ => state[at..at + 8].copy_from_slice(&word.to_le_bytes()),
         }
         if r.one_in(2) {
             break;
