@@ -55,6 +55,38 @@ pub const QUIESCE: u32 = 8;
 /// `Call::Close`.
 pub const CLOSE: u32 = 9;
 
+// The kinds of questions, as a word has them.
+/// `Question::Finished`.
+pub const FINISHED: u64 = 0;
+/// `Question::ConfigRead16`.
+pub const CONFIG_READ16: u64 = 1;
+/// `Question::ConfigRead32`.
+pub const CONFIG_READ32: u64 = 2;
+/// `Question::ConfigWrite16`.
+pub const CONFIG_WRITE16: u64 = 3;
+/// `Question::ConfigWrite32`.
+pub const CONFIG_WRITE32: u64 = 4;
+/// `Question::RegisterRead`.
+pub const REG_READ: u64 = 5;
+/// `Question::RegisterWrite`.
+pub const REG_WRITE: u64 = 6;
+/// `Question::Attributes`.
+pub const ATTRIBUTES: u64 = 7;
+/// `Question::Resource`.
+pub const RESOURCE: u64 = 8;
+/// `Question::Stall`.
+pub const STALL: u64 = 9;
+/// `Question::Allocate`.
+pub const ALLOCATE: u64 = 10;
+/// `Question::Map`.
+pub const MAP: u64 = 11;
+/// `Question::Unmap`.
+pub const UNMAP: u64 = 12;
+/// `Question::Free`.
+pub const FREE: u64 = 13;
+/// `Question::Fence`.
+pub const FENCE: u64 = 14;
+
 // The kinds of answers.
 /// `Answer::Word`.
 pub const WORD: u32 = 1;
@@ -78,6 +110,7 @@ pub struct Words<'a>(pub &'a [u8]);
 
 impl Words<'_> {
     /// Word `k`; 0 behind the end.
+    #[inline]
     pub fn at(&self, k: usize) -> u64 {
         let word = self.0.get(8 * k..8 * k + 8).and_then(|b| b.try_into().ok());
         word.map_or(0, u64::from_le_bytes)
@@ -88,3 +121,6 @@ impl Words<'_> {
         self.at(k) != 0
     }
 }
+
+/// What a call says, as numbers: the kind of the question, its three values, and how many undo records are left.
+pub type Turn = [u64; 5];

@@ -164,6 +164,13 @@ macro_rules! on_session {
     }};
 }
 
+/// The words that a call writes, as the bytes that it is lent. The library is for a little-endian machine, as its words are.
+#[inline]
+pub fn bytes(turn: &mut abi::Turn) -> &mut [u8] {
+    // SAFETY: numbers of eight bytes each, and any bytes are numbers.
+    unsafe { core::slice::from_raw_parts_mut(turn.as_mut_ptr().cast(), abi::TURN) }
+}
+
 /// `hca_call`.
 pub fn call(l: Lent, c: Called) -> u32 {
     let (input, bytes) = (c.input.as_ptr(), c.input.len());
@@ -171,6 +178,7 @@ pub fn call(l: Lent, c: Called) -> u32 {
 }
 
 /// `hca_answer`.
+#[inline]
 pub fn answer(l: Lent, t: Told) -> u32 {
     on_session!(c::hca_answer, l, t.kind, t.a, t.b, t.resource.as_ptr(), t.resource.len())
 }

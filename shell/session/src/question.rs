@@ -1,6 +1,6 @@
 //! Questions and answers.
 
-use crate::abi::{self, Words};
+use crate::abi::{self, Turn, Words};
 use crate::ffi::Told;
 
 /// An attribute call of PCI I/O.
@@ -27,7 +27,7 @@ impl Attribute {
         }
     }
 
-    fn of(number: u64) -> Option<Attribute> {
+    pub(crate) fn of(number: u64) -> Option<Attribute> {
         let all = [Attribute::Get, Attribute::Set, Attribute::Enable, Attribute::Supported];
         all.into_iter().find(|a| u64::from(a.number()) == number)
     }
@@ -126,26 +126,52 @@ pub enum Question {
 impl Question {
     /// The question in the first four words; `None` where they are none.
     pub fn of(w: &Words) -> Option<Question> {
-        let (a, b, c) = (w.at(1), w.at(2), w.at(3));
+        Question::said(&[w.at(0), w.at(1), w.at(2), w.at(3), 0])
+    }
+
+    /// The question that a call says.
+    pub(crate) fn said(&[kind, a, b, c, _]: &Turn) -> Option<Question> {
         let offset = u16::try_from(a);
-        Some(match w.at(0) {
-            0 => Question::Finished,
-            1 => Question::ConfigRead16 { offset: offset.ok()? },
-            2 => Question::ConfigRead32 { offset: offset.ok()? },
-            3 => Question::ConfigWrite16 { offset: offset.ok()?, value: b.try_into().ok()? },
-            4 => Question::ConfigWrite32 { offset: offset.ok()?, value: b.try_into().ok()? },
-            5 => Question::RegisterRead { bar: a.try_into().ok()?, offset: b },
-            6 => Question::RegisterWrite { bar: a.try_into().ok()?, offset: b, value: c.try_into().ok()? },
-            7 => Question::Attributes { call: Attribute::of(a)?, value: b },
-            8 => Question::Resource { bar: a.try_into().ok()? },
-            9 => Question::Stall { us: a.try_into().ok()? },
-            10 => Question::Allocate { pages: a },
-            11 => Question::Map { handle: a, bytes: b },
-            12 => Question::Unmap { handle: a },
-            13 => Question::Free { handle: a, pages: b },
-            14 => Question::Fence,
+        Some(match kind {
+            abi::FINISHED => Question::Finished,
+            abi::CONFIG_READ16 => Question::ConfigRead16 { offset: offset.ok()? },
+            abi::CONFIG_READ32 => Question::ConfigRead32 { offset: offset.ok()? },
+            abi::CONFIG_WRITE16 => Question::ConfigWrite16 { offset: offset.ok()?, value: b.try_into().ok()? },
+            abi::CONFIG_WRITE32 => Question::ConfigWrite32 { offset: offset.ok()?, value: b.try_into().ok()? },
+            abi::REG_READ => Question::RegisterRead { bar: a.try_into().ok()?, offset: b },
+            abi::REG_WRITE => Question::RegisterWrite { bar: a.try_into().ok()?, offset: b, value: c.try_into().ok()? },
+            abi::ATTRIBUTES => Question::Attributes { call: Attribute::of(a)?, value: b },
+            abi::RESOURCE => Question::Resource { bar: a.try_into().ok()? },
+            abi::STALL => Question::Stall { us: a.try_into().ok()? },
+            abi::ALLOCATE => Question::Allocate { pages: a },
+            abi::MAP => Question::Map { handle: a, bytes: b },
+            abi::UNMAP => Question::Unmap { handle: a },
+            abi::FREE => Question::Free { handle: a, pages: b },
+            abi::FENCE => Question::Fence,
             _ => return None,
         })
+    }
+
+    /// As a call says it, with no undo records.
+    pub(crate) fn turn(self) -> Turn {
+        let of = |kind: u64, a: u64, b: u64| [kind, a, b, 0, 0];
+        match self {
+            Question::Finished => of(abi::FINISHED, 0, 0),
+            Question::ConfigRead16 { offset } => of(abi::CONFIG_READ16, offset.into(), 0),
+            Question::ConfigRead32 { offset } => of(abi::CONFIG_READ32, offset.into(), 0),
+            Question::ConfigWrite16 { offset, value } => of(abi::CONFIG_WRITE16, offset.into(), value.into()),
+            Question::ConfigWrite32 { offset, value } => of(abi::CONFIG_WRITE32, offset.into(), value.into()),
+            Question::RegisterRead { bar, offset } => of(abi::REG_READ, bar.into(), offset),
+            Question::RegisterWrite { bar, offset, value } => [abi::REG_WRITE, bar.into(), offset, value.into(), 0],
+            Question::Attributes { call, value } => of(abi::ATTRIBUTES, call.number().into(), value),
+            Question::Resource { bar } => of(abi::RESOURCE, bar.into(), 0),
+            Question::Stall { us } => of(abi::STALL, us.into(), 0),
+            Question::Allocate { pages } => of(abi::ALLOCATE, pages, 0),
+            Question::Map { handle, bytes } => of(abi::MAP, handle, bytes),
+            Question::Unmap { handle } => of(abi::UNMAP, handle, 0),
+            Question::Free { handle, pages } => of(abi::FREE, handle, pages),
+            Question::Fence => of(abi::FENCE, 0, 0),
+        }
     }
 }
 
@@ -192,6 +218,20 @@ impl<'a> Answer<'a> {
             Answer::Handle(h) => of(abi::HANDLE, h, 0),
             Answer::Mapped(m) => of(abi::MAPPED, m.address, m.bytes),
             Answer::List(bytes) => Told { resource: bytes, ..of(abi::LIST, 0, 0) },
+        }
+    }
+
+    /// What was told, back as an answer.
+    pub(crate) fn of(t: Told<'a>) -> Answer<'a> {
+        match t.kind {
+            abi::WORD => Answer::Word(t.a as u16),
+            abi::DWORD => Answer::Dword(t.a as u32),
+            abi::QWORD => Answer::Qword(t.a),
+            abi::DONE => Answer::Done,
+            abi::HANDLE => Answer::Handle(t.a),
+            abi::MAPPED => Answer::Mapped(Mapping { address: t.a, bytes: t.b }),
+            abi::LIST => Answer::List(t.resource),
+            _ => Answer::Failed,
         }
     }
 }

@@ -1,12 +1,12 @@
 //! A session, and the loop that answers its questions.
 
-use crate::abi::{self, Words, MAILBOX, STATE, TURN};
+use crate::abi::{self, Turn, Words, MAILBOX, STATE};
 use crate::books::Books;
 use crate::bus::{Bus, Fence, Mailbox};
 use crate::call::Call;
-use crate::ffi::{self, Lent, Reader};
+use crate::ffi::{self, Lent, Reader, Told};
 use crate::outcome::Outcome;
-use crate::question::{Answer, Question};
+use crate::question::{Answer, Attribute, Question};
 use crate::setup::Setup;
 use crate::undo::UndoList;
 
@@ -83,58 +83,91 @@ impl Session {
         self.finish(bus, undo)
     }
 
-    /// Answers questions until none is open.
+    /// Answers questions until none is open. The open one is kept as the numbers that the library says, so that an answer
+    /// costs few instructions; `ask` and `answer` are for those who step by hand.
     pub fn finish(&mut self, bus: &mut impl Bus, undo: &mut UndoList) -> Result<Outcome, Refused> {
         let mut list = [0; LIST];
-        while self.question != Question::Finished {
-            let answer = self.ask(bus, &mut list);
-            self.answer(answer, undo)?;
+        let mut out = self.question.turn();
+        while let Some(told) = self.asked(&out, bus, &mut list) {
+            let written = out[0] == abi::REG_WRITE;
+            if let Err(why) = self.told(told, undo, &mut out) {
+                // What is refused has written nothing: the same question is open.
+                self.question = Question::said(&out).unwrap_or(self.question);
+                return Err(why);
+            }
+            self.before = written;
         }
+        self.question = Question::said(&out).ok_or(Refused::Unknown)?;
         self.result()
     }
 
     /// Begins a call; its first question, or `Question::Finished` where there is nothing to ask.
     pub fn begin(&mut self, call: Call, undo: &mut UndoList) -> Result<Question, Refused> {
-        self.turn(undo, |lent| ffi::call(lent, call.called()))
+        let mut out = [0; 5];
+        self.turn(undo, &mut out, |lent| ffi::call(lent, call.called()))?;
+        self.opens(&out)
     }
 
     /// Hands in what came of the open question; the next one.
     pub fn answer(&mut self, answer: Answer, undo: &mut UndoList) -> Result<Question, Refused> {
-        let next = self.turn(undo, |lent| ffi::answer(lent, answer.told()))?;
-        if let (Answer::Handle(pages), Some(b)) = (answer, self.boxes.get_mut(self.allocated)) {
-            *b = pages;
-            self.allocated += 1;
-        }
-        Ok(next)
+        let mut out = [0; 5];
+        self.told(answer.told(), undo, &mut out)?;
+        self.opens(&out)
     }
 
     /// Does what the open question says. `list` takes the bytes of a resource list.
     pub fn ask<'a>(&mut self, bus: &mut impl Bus, list: &'a mut [u8]) -> Answer<'a> {
-        match self.question {
-            Question::Finished => Answer::Done,
-            Question::ConfigRead16 { offset } => bus.config_read16(offset).map_or(Answer::Failed, Answer::Word),
-            Question::ConfigRead32 { offset } => bus.config_read32(offset).map_or(Answer::Failed, Answer::Dword),
-            Question::ConfigWrite16 { offset, value } => done(bus.config_write16(offset, value)),
-            Question::ConfigWrite32 { offset, value } => done(bus.config_write32(offset, value)),
-            Question::RegisterRead { bar, offset } => {
-                bus.register_read(bar, offset).map_or(Answer::Failed, Answer::Dword)
+        self.asked(&self.question.turn(), bus, list).map_or(Answer::Done, Answer::of)
+    }
+
+    /// Does what a question says; `None` where nothing is asked, or the words are no question.
+    #[inline(always)]
+    fn asked<'a>(&mut self, open: &Turn, bus: &mut impl Bus, list: &'a mut [u8]) -> Option<Told<'a>> {
+        let [kind, a, b, c, _] = *open;
+        Some(match kind {
+            abi::REG_READ => got(abi::DWORD, bus.register_read(a.try_into().ok()?, b)),
+            abi::REG_WRITE => done(bus.register_write(a.try_into().ok()?, b, c.try_into().ok()?)),
+            abi::STALL => {
+                bus.stall(a.try_into().ok()?);
+                done(true)
             }
-            Question::RegisterWrite { bar, offset, value } => done(bus.register_write(bar, offset, value)),
-            Question::Attributes { call, value } => bus.attributes(call, value).map_or(Answer::Failed, Answer::Qword),
-            Question::Resource { bar } => resource(bus, bar, list),
-            Question::Stall { us } => {
-                bus.stall(us);
-                Answer::Done
-            }
-            Question::Allocate { pages } => bus.allocate(pages).map_or(Answer::Failed, Answer::Handle),
-            Question::Map { handle, bytes } => bus.map(handle, bytes).map_or(Answer::Failed, Answer::Mapped),
-            Question::Unmap { handle } => done(bus.unmap(handle)),
-            Question::Free { handle, pages } => done(bus.free(handle, pages)),
-            Question::Fence => {
+            abi::FENCE => {
                 bus.fence(self.fence());
-                Answer::Done
+                done(true)
+            }
+            abi::CONFIG_READ16 => got(abi::WORD, bus.config_read16(a.try_into().ok()?)),
+            abi::CONFIG_READ32 => got(abi::DWORD, bus.config_read32(a.try_into().ok()?)),
+            abi::CONFIG_WRITE16 => done(bus.config_write16(a.try_into().ok()?, b.try_into().ok()?)),
+            abi::CONFIG_WRITE32 => done(bus.config_write32(a.try_into().ok()?, b.try_into().ok()?)),
+            abi::ATTRIBUTES => got(abi::QWORD, bus.attributes(Attribute::of(a)?, b)),
+            abi::RESOURCE => resource(bus, a.try_into().ok()?, list),
+            abi::ALLOCATE => got(abi::HANDLE, bus.allocate(a)),
+            abi::MAP => bus.map(a, b).map_or(FAILED, |m| Told { b: m.bytes, ..got(abi::MAPPED, Some(m.address)) }),
+            abi::UNMAP => done(bus.unmap(a)),
+            abi::FREE => done(bus.free(a, b)),
+            _ => return None,
+        })
+    }
+
+    /// Hands in what was told.
+    #[inline(always)]
+    fn told(&mut self, told: Told, undo: &mut UndoList, out: &mut Turn) -> Result<(), Refused> {
+        self.turn(undo, out, |lent| ffi::answer(lent, told))?;
+        if told.kind == abi::HANDLE {
+            if let Some(pages) = self.boxes.get_mut(self.allocated) {
+                *pages = told.a;
+                self.allocated += 1;
             }
         }
+        Ok(())
+    }
+
+    /// A question is open.
+    fn opens(&mut self, turn: &Turn) -> Result<Question, Refused> {
+        let next = Question::said(turn).ok_or(Refused::Unknown)?;
+        self.before = matches!(self.question, Question::RegisterWrite { .. });
+        self.question = next;
+        Ok(next)
     }
 
     fn fence(&mut self) -> Fence<'_> {
@@ -193,21 +226,19 @@ impl Session {
         taken(ffi::read(which, &self.state, out))
     }
 
-    /// One call: all is lent, the next question is kept, and the undo list is cut to what the call has left on it.
-    fn turn(&mut self, undo: &mut UndoList, call: impl FnOnce(Lent) -> u32) -> Result<Question, Refused> {
-        let mut out = [0; TURN];
+    /// One call: all is lent, `out` has what the library says then, and the undo list is cut to what is left on it.
+    #[inline(always)]
+    fn turn(&mut self, undo: &mut UndoList, out: &mut Turn, call: impl FnOnce(Lent) -> u32) -> Result<(), Refused> {
         let Session { state, inbox, outbox, .. } = self;
-        taken(call(Lent { state, inbox, outbox, undo: undo.room(), count: undo.len(), out: &mut out }))?;
-        let words = Words(&out);
-        let next = Question::of(&words).ok_or(Refused::Unknown)?;
-        undo.truncate(usize::try_from(words.at(4)).map_err(|_| Refused::Unknown)?);
-        self.before = matches!(self.question, Question::RegisterWrite { .. });
-        self.question = next;
-        Ok(next)
+        let out_bytes = ffi::bytes(out);
+        taken(call(Lent { state, inbox, outbox, undo: undo.room(), count: undo.len(), out: out_bytes }))?;
+        undo.truncate(usize::try_from(out[4]).map_err(|_| Refused::Unknown)?);
+        Ok(())
     }
 }
 
 /// A call's number.
+#[inline]
 pub(crate) fn taken(number: u32) -> Result<(), Refused> {
     match number {
         0 => Ok(()),
@@ -220,17 +251,20 @@ pub(crate) fn taken(number: u32) -> Result<(), Refused> {
     }
 }
 
-fn done(good: bool) -> Answer<'static> {
-    if good {
-        Answer::Done
-    } else {
-        Answer::Failed
-    }
+/// Any call that failed.
+const FAILED: Told<'static> = Told { kind: abi::FAILED, a: 0, b: 0, resource: &[] };
+
+fn done(good: bool) -> Told<'static> {
+    Told { kind: if good { abi::DONE } else { abi::FAILED }, ..FAILED }
 }
 
-fn resource<'a>(bus: &mut impl Bus, bar: u8, list: &'a mut [u8]) -> Answer<'a> {
+fn got(kind: u32, value: Option<impl Into<u64>>) -> Told<'static> {
+    value.map_or(FAILED, |v| Told { kind, a: v.into(), ..FAILED })
+}
+
+fn resource<'a>(bus: &mut impl Bus, bar: u8, list: &'a mut [u8]) -> Told<'a> {
     match bus.resource(bar, list) {
-        Some(n) => Answer::List(&list[..n.min(list.len())]),
-        None => Answer::Failed,
+        Some(n) => Told { kind: abi::LIST, resource: &list[..n.min(list.len())], ..FAILED },
+        None => FAILED,
     }
 }

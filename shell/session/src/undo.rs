@@ -53,6 +53,7 @@ impl<'a> UndoList<'a> {
     }
 
     /// How many records are on the list.
+    #[inline]
     pub fn len(&self) -> usize {
         self.count
     }
@@ -63,6 +64,7 @@ impl<'a> UndoList<'a> {
     }
 
     /// Leaves the oldest ones.
+    #[inline]
     pub fn truncate(&mut self, count: usize) {
         self.count = self.count.min(count);
     }
@@ -78,6 +80,7 @@ impl<'a> UndoList<'a> {
     }
 
     /// All that is lent, with what stands behind the last record.
+    #[inline]
     pub(crate) fn room(&self) -> &[Undo] {
         self.records
     }
