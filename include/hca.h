@@ -19,8 +19,8 @@
  *   resource  no one: it is read by hca_answer, and not kept
  * A pointer may be null only where its length is 0; `undo` is aligned as its type. No slice that is written may overlap another.
  *
- * All words are little-endian, of eight bytes. The first and the second good HCA_ALLOCATE of an opening are the pages that stand behind `inbox` and `outbox`. While a command is
- * polled, hca_answer looks at the first 80 bytes of the session alone; damage behind them is found by the next answer that is not to a poll.
+ * All words are little-endian, of eight bytes. The first and the second good HCA_ALLOCATE of an opening are the pages that stand behind `inbox` and `outbox`. An answer that does
+ * not end its command looks at the first 80 bytes of the session alone; damage behind them is found by the next answer that does, or is to another task, and by every call.
  *
  * The library is for x86-64 with the System V calling convention, and uses the red zone: under UEFI its functions are called at TPL_HIGH_LEVEL. docs/SHELL.md says that, and what
  * a caller does at each question; docs/MAP.md has the states of a session; docs/BENCHMARK.md says how much stack a call needs.

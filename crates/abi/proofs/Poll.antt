@@ -1,23 +1,26 @@
--- Where the bytes hold a session, an answer by the poll's own words alone is the answer by the whole session: `poll-is-whole`.
-use Prim.Native.Nat.{ℕ, _+_, _*_, _≤_}
+-- Where the bytes hold a session, an answer by the words of a command that goes on is the answer by the whole session, in every phase of the command: `poll-is-whole`.
+use Prim.Native.Nat.{ℕ, _+_, _*_, _^_, _≤_, _<_}
 use mathlib.Core.Bool.{Bool, true, false, _&&_, not}
-use mathlib.Core.Path.{_≡_, refl, ap, sym, _∙_}
+use mathlib.Core.Path.{_≡_, refl, ap, sym, subst, _∙_}
 use mathlib.Core.List.{List, [], _∷_, _++_}
 use native.Mathlib.Omega.{arith}
-use borrow.Author.Tests.{ltb-false, leb-true, le-ltb, le-leb}
+use borrow.Author.Tests.{ltb-true, ltb-false, leb-true, lt-leb, le-ltb, le-leb}
 use lib.ListN.{length, getD}
 use lib.Dec.{eqb, ltb, leb}
 use Rattle.fields.specs.Outcome.{value, pick}
 use Rattle.fields.proofs.Laws.{Bytes}
-use Rattle.hcr.specs.Words.{pendingIn, swapOf, waitedOf}
+use Rattle.hcr.specs.Words.{pendingIn, statusIn, swapOf, stallOf, waitedOf}
+use Rattle.hcr.proofs.Laws.{no-sooner}
 use Rattle.words.specs.Words.{at, wordsIn, putWords, bitOf}
 use Rattle.words.proofs.Laws.{BytesFrom, bit-back, put-append, words-after, words-agree, words-same, length-words}
-use Rattle.words_task.specs.Coding.{taskWords, cmdWords, phaseWords, catasWords}
+use Rattle.words_task.specs.Coding.{taskWords, taskOf, cmdWords, cmdOf, phaseWords, catasWords}
 use Rattle.words_session.specs.Image.{decodeOf, encodedIn, putHot}
 use Rattle.words_laws.specs.Kept.{withTask}
 use Rattle.words_laws.proofs.Poll.{given, counts-of, parts-of, poll-alone}
-use Rattle.command.specs.Machine.{inPhase, stalledBy, cmdAsks, cmdStepOf}
+use Rattle.command.specs.Script.{STALLS}
+use Rattle.command.specs.Machine.{inPhase, stalledBy, posted, cmdAsks, cmdStepOf}
 use Rattle.command.specs.declared.Cmd.{Cmd}
+use Rattle.command.specs.declared.CmdStep.the-variants as cs
 use Rattle.command.specs.declared.Phase.{Phase}
 use Rattle.command.specs.declared.Phase.the-variants as ph
 use Rattle.work.specs.declared.Task.{Task}
@@ -27,252 +30,287 @@ use Rattle.work.specs.declared.Ending.the-variants as e
 use Rattle.fw_plan.specs.Calls.{asksOf, isAllocate, stepOf, stepIn, stepOut}
 use Rattle.words_calls.specs.Calls.{turnIn}
 use Rattle.pci.specs.Suits.{suitsOf}
+use Rattle.pci.specs.declared.Question.{Question}
 use Rattle.pci.specs.declared.Answer.{Answer}
 use Rattle.pci.specs.declared.Answer.the-variants as a
 use Rattle.session.specs.declared.Top.{Top}
 use Rattle.session.specs.declared.Session.{Session}
-use Rattle.poll.specs.Poll.{pollOf, pollIn, readOn, waitOn, pollOn, readyFor, onwardOf, stallIn, readIn}
-use Rattle.poll.specs.declared.Poll.{Poll}
-use Rattle.poll.specs.declared.Poll.the-variants as p
-use Rattle.poll.specs.declared.Onward.{Onward}
-use Rattle.poll.specs.declared.Onward.the-variants as o
-use Rattle.abi.specs.Turns.{after, answerKnown, answered}
+use Rattle.in_place.specs.InPlace.{after as comes, nextOf, firstWords, readyFor, onwardOf, goesOn, stateAfter, asked, outAfter}
+use Rattle.in_place.specs.declared.Next.{Next}
+use Rattle.in_place.specs.declared.Next.the-variants as n
+use Rattle.abi.specs.Turns.{After, after, answerKnown, answered}
 use Rattle.abi.specs.Calls.{onwardBy, answer}
+use Rattle.abi.proofs.Calls.{not-so}
 
--- the number of a case
-abbrev tag : Onward → ℕ
-tag (o.Stall n) = 0
-tag (o.Read n) = 1
-tag o.Other = 2
+-- THE COMMAND THAT GOES ON, by what comes next
+abbrev pub onTo : Cmd → Next → Cmd
+onTo c (n.Write i) = inPhase c (ph.Writing i)
+onTo c n.Fence = inPhase c ph.Fence
+onTo c n.Go = inPhase c ph.Go
+onTo c (n.Posted g) = posted c
+onTo c (n.Stall us) = inPhase c ph.Wait
+onTo c (n.Read m) = stalledBy c m
+onTo c n.Fenced = inPhase c ph.Fenced
+onTo c n.Status = inPhase c ph.Status
+onTo c n.High = inPhase c ph.High
+onTo c (n.Low v) = inPhase c (ph.Low v)
+onTo c n.Other = c
 
-abbrev stalls : Onward → ℕ
-stalls (o.Stall n) = n
-stalls (o.Read n) = n
-stalls o.Other = 0
+-- the values that come with it are those of the command
+abbrev pub Known : Cmd → Next → Type 0
+Known c (n.Write i) = i < 2 ^ 8
+Known c n.Fence = Unit {0}
+Known c n.Go = Unit {0}
+Known c (n.Posted g) = g ≡ bitOf (not (c .toggle))
+Known c (n.Stall us) = us ≡ stallOf (c .stalls)
+Known c (n.Read m) = m < 2 ^ 32
+Known c n.Fenced = Unit {0}
+Known c n.Status = Unit {0}
+Known c n.High = Unit {0}
+Known c (n.Low v) = v < 2 ^ 32
+Known c n.Other = Unit {0}
 
--- a test that leads on was true
-pub leads : (b : Bool) (z y : Onward) → (_≡_ {A = ℕ} (tag y) 2 → ⊥) → pick b z o.Other ≡ y → (b ≡ true) × (z ≡ y)
-leads true z y h e = (refl, e)
-leads false z y h e = absurd (h (sym (ap tag e)))
+-- the command takes the answer, and goes on so
+pub record Took (c : Cmd) (x : Answer) (z : Next) : Type 0 where
+  pub suits : suitsOf (cmdAsks c) x ≡ true
+  pub still : isAllocate (cmdAsks c) ≡ false
+  pub step : cmdStepOf c x ≡ cs.More (onTo c z)
+  pub known : Known c z
 
--- what an answer to a read that leads to a stall says
-pub record Pending (g : Bool) (m n : ℕ) (x : Answer) : Type 0 where
-  pub status : ℕ
-  pub is : x ≡ a.Dword status
-  pub pending : pendingIn (swapOf status) g ≡ true
-  pub early : leb 60000000 (waitedOf m) ≡ false
-  pub same : m ≡ n
+abbrev Takes : Cmd → Answer → Next → Type 0
+Takes c x z = goesOn z ≡ true → Took c x z
 
-stalls-on : (b : Bool) (m n : ℕ) → pick b o.Other (o.Stall m) ≡ o.Stall n → (b ≡ false) × (m ≡ n)
-stalls-on true m n e = absurd (let z : _≡_ {A = ℕ} 2 0 = ap tag e in omega arith)
-stalls-on false m n e = (refl, ap stalls e)
+-- EACH PHASE, by the tests that decide it: a register was read
+module _ (c : Cmd) (v : ℕ) where
+  first-takes : c .phase ≡ ph.First → (b : Bool) → pendingIn (swapOf v) (c .toggle) ≡ b → Takes c (a.Dword v) (pick b n.Other (n.Write 0))
+  unfolding cmdAsks cmdStepOf
+  first-takes h true e g = not-so g
+  first-takes h false e g = record { suits = simp (h); still = simp (h); step = simp (h, e); known = omega arith }
 
-wrong : {n : ℕ} → o.Other ≡ o.Stall n → ⊥
-wrong e = let z : _≡_ {A = ℕ} 2 0 = ap tag e in omega arith
+  poll-takes : c .phase ≡ ph.Poll → (b d : Bool) → pendingIn (swapOf v) (c .toggle) ≡ b → ltb (c .stalls) STALLS ≡ d
+      → Takes c (a.Dword v) (pick b (pick d (n.Stall (stallOf (c .stalls))) n.Other) n.Fenced)
+  unfolding cmdAsks cmdStepOf
+  poll-takes h true true e d g =
+      let soon = lt-leb 60000000 (waitedOf (c .stalls)) (no-sooner (c .stalls) (ltb-true (c .stalls) STALLS d)) in
+      record { suits = simp (h); still = simp (h); step = simp (h, e, soon); known = refl }
+  poll-takes h true false e d g = not-so g
+  poll-takes h false b e d g = record { suits = simp (h); still = simp (h); step = simp (h, e); known = tt }
 
-unread : {n : ℕ} → o.Other ≡ o.Read n → ⊥
-unread e = let z : _≡_ {A = ℕ} 2 1 = ap tag e in omega arith
+  status-takes : c .phase ≡ ph.Status → (b : Bool) → eqb (statusIn (swapOf v)) 0 ≡ b → Takes c (a.Dword v) (pick b n.High n.Other)
+  unfolding cmdAsks cmdStepOf
+  status-takes h true e g = record { suits = simp (h); still = simp (h); step = simp (h, e); known = tt }
+  status-takes h false e g = not-so g
 
-read-stalls : (g : Bool) (m n : ℕ) (x : Answer) → readOn g m x ≡ o.Stall n → Pending g m n x
-read-stalls g m n (a.Dword v) e =
-    let q = leads (pendingIn (swapOf v) g) (pick (leb 60000000 (waitedOf m)) o.Other (o.Stall m)) (o.Stall n) (λ h. let z : _≡_ {A = ℕ} 0 2 = h in omega arith) e in
-    let r = stalls-on (leb 60000000 (waitedOf m)) m n (q .1) in
-    record { status = v; is = refl; pending = q .0; early = r .0; same = r .1 }
-read-stalls g m n (a.Word v) e = absurd (wrong e)
-read-stalls g m n (a.Qword v) e = absurd (wrong e)
-read-stalls g m n a.Done e = absurd (wrong e)
-read-stalls g m n a.Failed e = absurd (wrong e)
-read-stalls g m n (a.Handle v) e = absurd (wrong e)
-read-stalls g m n (a.Mapped v w) e = absurd (wrong e)
-read-stalls g m n a.List e = absurd (wrong e)
+  high-takes : c .phase ≡ ph.High → Takes c (a.Dword v) (n.Low (swapOf v))
+  unfolding cmdAsks cmdStepOf
+  high-takes h g = record { suits = simp (h); still = simp (h); step = simp (h); known = omega arith }
 
--- what an answer to a stall that leads to a read says
-pub record Stalled (m n : ℕ) (x : Answer) : Type 0 where
-  pub is : x ≡ a.Done
-  pub early : ltb m 600990 ≡ true
-  pub same : m + 1 ≡ n
+-- a write, a fence or a stall was made
+module _ (c : Cmd) where
+  write-takes : (i : ℕ) → c .phase ≡ ph.Writing i → (b : Bool) → ltb i 5 ≡ b → Takes c a.Done (pick b (n.Write (i + 1)) n.Fence)
+  unfolding cmdAsks cmdStepOf
+  write-takes i h true e g = let l = ltb-true i 5 e in record { suits = simp (h); still = simp (h); step = simp (h, e); known = omega arith }
+  write-takes i h false e g = record { suits = simp (h); still = simp (h); step = simp (h, e); known = tt }
 
-wait-reads : (m n : ℕ) (x : Answer) → waitOn m x ≡ o.Read n → Stalled m n x
-wait-reads m n a.Done e =
-    let q = leads (ltb m 600990) (o.Read (m + 1)) (o.Read n) (λ h. let z : _≡_ {A = ℕ} 1 2 = h in omega arith) e in
-    record { is = refl; early = q .0; same = ap stalls (q .1) }
-wait-reads m n (a.Dword v) e = absurd (unread e)
-wait-reads m n (a.Word v) e = absurd (unread e)
-wait-reads m n (a.Qword v) e = absurd (unread e)
-wait-reads m n a.Failed e = absurd (unread e)
-wait-reads m n (a.Handle v) e = absurd (unread e)
-wait-reads m n (a.Mapped v w) e = absurd (unread e)
-wait-reads m n a.List e = absurd (unread e)
+  fence-takes : c .phase ≡ ph.Fence → Takes c a.Done n.Go
+  unfolding cmdAsks cmdStepOf
+  fence-takes h g = record { suits = simp (h); still = simp (h); step = simp (h); known = tt }
 
--- a read never leads to a read, nor a stall to a stall
-no-read : (b d : Bool) (m n : ℕ) → pick b (pick d o.Other (o.Stall m)) o.Other ≡ o.Read n → ⊥
-no-read true true m n e = unread e
-no-read true false m n e = let z : _≡_ {A = ℕ} 0 1 = ap tag e in omega arith
-no-read false d m n e = unread e
+  go-takes : c .phase ≡ ph.Go → Takes c a.Done (n.Posted (bitOf (not (c .toggle))))
+  unfolding cmdAsks cmdStepOf
+  go-takes h g = record { suits = simp (h); still = simp (h); step = simp (h); known = refl }
 
-read-never : (g : Bool) (m n : ℕ) (x : Answer) → readOn g m x ≡ o.Read n → ⊥
-read-never g m n (a.Dword v) e = no-read (pendingIn (swapOf v) g) (leb 60000000 (waitedOf m)) m n e
-read-never g m n (a.Word v) e = unread e
-read-never g m n (a.Qword v) e = unread e
-read-never g m n a.Done e = unread e
-read-never g m n a.Failed e = unread e
-read-never g m n (a.Handle v) e = unread e
-read-never g m n (a.Mapped v w) e = unread e
-read-never g m n a.List e = unread e
+  wait-takes : c .phase ≡ ph.Wait → (b : Bool) → ltb (c .stalls) STALLS ≡ b → Takes c a.Done (pick b (n.Read (c .stalls + 1)) n.Other)
+  unfolding cmdAsks cmdStepOf
+  wait-takes h true e g = let l = ltb-true (c .stalls) STALLS e in record { suits = simp (h); still = simp (h); step = simp (h, e); known = omega arith }
+  wait-takes h false e g = not-so g
 
-no-stall : (b : Bool) (m n : ℕ) → pick b (o.Read m) o.Other ≡ o.Stall n → ⊥
-no-stall true m n e = let z : _≡_ {A = ℕ} 1 0 = ap tag e in omega arith
-no-stall false m n e = wrong e
+  fenced-takes : c .phase ≡ ph.Fenced → Takes c a.Done n.Status
+  unfolding cmdAsks cmdStepOf
+  fenced-takes h g = record { suits = simp (h); still = simp (h); step = simp (h); known = tt }
 
-wait-never : (m n : ℕ) (x : Answer) → waitOn m x ≡ o.Stall n → ⊥
-wait-never m n a.Done e = no-stall (ltb m 600990) (m + 1) n e
-wait-never m n (a.Dword v) e = wrong e
-wait-never m n (a.Word v) e = wrong e
-wait-never m n (a.Qword v) e = wrong e
-wait-never m n a.Failed e = wrong e
-wait-never m n (a.Handle v) e = wrong e
-wait-never m n (a.Mapped v w) e = wrong e
-wait-never m n a.List e = wrong e
+-- EVERY ANSWER, by the phase
+module _ (c : Cmd) where
+  -- the toggle as its word has it
+  by-toggle : {A : Type 0} (f : Bool → A) → f (eqb (bitOf (c .toggle)) 1) ≡ f (c .toggle)
+  by-toggle f = ap f (bit-back (c .toggle))
 
--- THE TASK whose words are polled is a command that waits for its end
-pub record Reading (k : Task) (n : ℕ) (x : Answer) : Type 0 where
+  read-takes : (v : ℕ) (f : Phase) → c .phase ≡ f → Takes c (a.Dword v) (comes (cmdWords (inPhase c f)) (a.Dword v))
+  read-takes v ph.First h g =
+      let e = by-toggle (λ (y : Bool). pick (pendingIn (swapOf v) y) n.Other (n.Write 0)) in
+      subst (Took c (a.Dword v)) (sym e) (first-takes c v h (pendingIn (swapOf v) (c .toggle)) refl (sym (ap goesOn e) ∙ g))
+  read-takes v ph.Poll h g =
+      let e = by-toggle (λ (y : Bool). pick (pendingIn (swapOf v) y) (pick (ltb (c .stalls) STALLS) (n.Stall (stallOf (c .stalls))) n.Other) n.Fenced) in
+      subst (Took c (a.Dword v)) (sym e) (poll-takes c v h (pendingIn (swapOf v) (c .toggle)) (ltb (c .stalls) STALLS) refl refl (sym (ap goesOn e) ∙ g))
+  read-takes v ph.Status h g = status-takes c v h (eqb (statusIn (swapOf v)) 0) refl g
+  read-takes v ph.High h g = high-takes c v h g
+  read-takes v (ph.Writing i) h g = not-so g
+  read-takes v ph.Fence h g = not-so g
+  read-takes v ph.Go h g = not-so g
+  read-takes v ph.Wait h g = not-so g
+  read-takes v ph.Fenced h g = not-so g
+  read-takes v (ph.Low i) h g = not-so g
+  read-takes v ph.Catas h g = not-so g
+
+  done-takes : (f : Phase) → c .phase ≡ f → Takes c a.Done (comes (cmdWords (inPhase c f)) a.Done)
+  done-takes (ph.Writing i) h g = write-takes c i h (ltb i 5) refl g
+  done-takes ph.Fence h g = fence-takes c h g
+  done-takes ph.Go h g =
+      let e = by-toggle (λ (y : Bool). n.Posted (bitOf (not y))) in subst (Took c a.Done) (sym e) (go-takes c h (sym (ap goesOn e) ∙ g))
+  done-takes ph.Wait h g = wait-takes c h (ltb (c .stalls) STALLS) refl g
+  done-takes ph.Fenced h g = fenced-takes c h g
+  done-takes ph.First h g = not-so g
+  done-takes ph.Poll h g = not-so g
+  done-takes ph.Status h g = not-so g
+  done-takes ph.High h g = not-so g
+  done-takes (ph.Low i) h g = not-so g
+  done-takes ph.Catas h g = not-so g
+
+  pub takes : (x : Answer) → Takes c x (comes (cmdWords c) x)
+  takes (a.Dword v) = read-takes v (c .phase) refl
+  takes a.Done = done-takes (c .phase) refl
+  takes (a.Word v) = λ g. not-so g
+  takes (a.Qword v) = λ g. not-so g
+  takes a.Failed = λ g. not-so g
+  takes (a.Handle v) = λ g. not-so g
+  takes (a.Mapped v x) = λ g. not-so g
+  takes a.List = λ g. not-so g
+
+-- a task that goes on so is a command
+pub record Going (k : Task) (x : Answer) (z : Next) : Type 0 where
   pub cmd : Cmd
   pub is : k ≡ t.Cmd cmd
-  pub phase : cmd .phase ≡ ph.Poll
-  pub says : Pending (cmd .toggle) (cmd .stalls) n x
+  pub took : Took cmd x z
 
-pub record Waiting (k : Task) (n : ℕ) (x : Answer) : Type 0 where
-  pub cmd : Cmd
-  pub is : k ≡ t.Cmd cmd
-  pub phase : cmd .phase ≡ ph.Wait
-  pub says : Stalled (cmd .stalls) n x
+pub going : (k : Task) (x : Answer) → goesOn (nextOf (taskWords k) x) ≡ true → Going k x (nextOf (taskWords k) x)
+going (t.Cmd c) x g = record { cmd = c; is = refl; took = takes c x g }
+going t.Rest x g = not-so g
+going (t.Attr y) x g = not-so g
+going (t.Claim y) x g = not-so g
+going t.Reset x g = not-so g
+going t.Bar x g = not-so g
+going (t.Make y) x g = not-so g
+going (t.Free y) x g = not-so g
+going t.Look x g = not-so g
+going (t.Part y) x g = not-so g
 
-abbrev wordsPoll : Cmd → Phase → Bool → Poll
-wordsPoll c f b =
-    pick b
-    (pick (eqb (at (phaseWords f) 0) 4) (p.Read (eqb (bitOf (c .toggle)) 1) (c .stalls)) (pick (eqb (at (phaseWords f) 0) 5) (p.Wait (c .stalls)) p.Other)) p.Other
-
-cmd-stalls : (c : Cmd) (f : Phase) (b : Bool) (n : ℕ) (x : Answer) → c .phase ≡ f → pollOn (wordsPoll c f b) x ≡ o.Stall n → Reading (t.Cmd c) n x
-cmd-stalls c ph.Poll true n x h e =
-    record { cmd = c; is = refl; phase = h; says = read-stalls (c .toggle) (c .stalls) n x (ap (λ (g : Bool). readOn g (c .stalls) x) (sym (bit-back (c .toggle))) ∙ e) }
-cmd-stalls c ph.Wait true n x h e = absurd (wait-never (c .stalls) n x e)
-cmd-stalls c ph.First true n x h e = absurd (wrong e)
-cmd-stalls c (ph.Writing i) true n x h e = absurd (wrong e)
-cmd-stalls c ph.Fence true n x h e = absurd (wrong e)
-cmd-stalls c ph.Go true n x h e = absurd (wrong e)
-cmd-stalls c ph.Fenced true n x h e = absurd (wrong e)
-cmd-stalls c ph.Status true n x h e = absurd (wrong e)
-cmd-stalls c ph.High true n x h e = absurd (wrong e)
-cmd-stalls c (ph.Low i) true n x h e = absurd (wrong e)
-cmd-stalls c ph.Catas true n x h e = absurd (wrong e)
-cmd-stalls c f false n x h e = absurd (wrong e)
-
-cmd-reads : (c : Cmd) (f : Phase) (b : Bool) (n : ℕ) (x : Answer) → c .phase ≡ f → pollOn (wordsPoll c f b) x ≡ o.Read n → Waiting (t.Cmd c) n x
-cmd-reads c ph.Poll true n x h e = absurd (read-never (eqb (bitOf (c .toggle)) 1) (c .stalls) n x e)
-cmd-reads c ph.Wait true n x h e = record { cmd = c; is = refl; phase = h; says = wait-reads (c .stalls) n x e }
-cmd-reads c ph.First true n x h e = absurd (unread e)
-cmd-reads c (ph.Writing i) true n x h e = absurd (unread e)
-cmd-reads c ph.Fence true n x h e = absurd (unread e)
-cmd-reads c ph.Go true n x h e = absurd (unread e)
-cmd-reads c ph.Fenced true n x h e = absurd (unread e)
-cmd-reads c ph.Status true n x h e = absurd (unread e)
-cmd-reads c ph.High true n x h e = absurd (unread e)
-cmd-reads c (ph.Low i) true n x h e = absurd (unread e)
-cmd-reads c ph.Catas true n x h e = absurd (unread e)
-cmd-reads c f false n x h e = absurd (unread e)
-
-pub task-stalls : (k : Task) (n : ℕ) (x : Answer) → pollOn (pollOf (taskWords k)) x ≡ o.Stall n → Reading k n x
-task-stalls (t.Cmd c) n x e = cmd-stalls c (c .phase) (leb (c .stalls) 4294967295) n x refl e
-task-stalls t.Rest n x e = absurd (wrong e)
-task-stalls (t.Attr y) n x e = absurd (wrong e)
-task-stalls (t.Claim y) n x e = absurd (wrong e)
-task-stalls t.Reset n x e = absurd (wrong e)
-task-stalls t.Bar n x e = absurd (wrong e)
-task-stalls (t.Make y) n x e = absurd (wrong e)
-task-stalls (t.Free y) n x e = absurd (wrong e)
-task-stalls t.Look n x e = absurd (wrong e)
-task-stalls (t.Part y) n x e = absurd (wrong e)
-
-pub task-reads : (k : Task) (n : ℕ) (x : Answer) → pollOn (pollOf (taskWords k)) x ≡ o.Read n → Waiting k n x
-task-reads (t.Cmd c) n x e = cmd-reads c (c .phase) (leb (c .stalls) 4294967295) n x refl e
-task-reads t.Rest n x e = absurd (unread e)
-task-reads (t.Attr y) n x e = absurd (unread e)
-task-reads (t.Claim y) n x e = absurd (unread e)
-task-reads t.Reset n x e = absurd (unread e)
-task-reads t.Bar n x e = absurd (unread e)
-task-reads (t.Make y) n x e = absurd (unread e)
-task-reads (t.Free y) n x e = absurd (unread e)
-task-reads t.Look n x e = absurd (unread e)
-task-reads (t.Part y) n x e = absurd (unread e)
-
--- THE BYTES. Words that stand already but for one: only that one is written
-one : (s : List ℕ) (k : ℕ) (pre : List ℕ) (v : ℕ) (post : List ℕ) → BytesFrom s (k * 8) → wordsIn s k (length pre) ≡ pre
-    → wordsIn s (k + length pre + 1) (length post) ≡ post → putWords s k (pre ++ v ∷ post) ≡ putWords s (k + length pre) (v ∷ [])
-one s k pre v post b e d =
+-- THE BYTES. Words that stand already but for some: only those are written
+some : (s : List ℕ) (k : ℕ) (pre mid post : List ℕ) → BytesFrom s (k * 8) → wordsIn s k (length pre) ≡ pre
+    → wordsIn s (k + length pre + length mid) (length post) ≡ post → putWords s k (pre ++ (mid ++ post)) ≡ putWords s (k + length pre) mid
+some s k pre mid post b e d =
     let j = k + length pre in
-    let x = putWords s j (v ∷ []) in
-    let far : (i : ℕ) → (j + 1) * 8 ≤ i → getD x i 0 ≡ getD s i 0 = λ i h. words-after s j (v ∷ []) i h in
+    let x = putWords s j mid in
+    let far : (i : ℕ) → (j + length mid) * 8 ≤ i → getD x i 0 ≡ getD s i 0 = λ i h. words-after s j mid i h in
     let same : putWords s k pre ≡ s = ap (putWords s k) (sym e) ∙ words-same s k (length pre) b in
-    let tail : wordsIn x (j + 1) (length post) ≡ post = words-agree x s (j + 1) (length post) (λ i h l. far i h) ∙ d in
-    put-append s k pre (v ∷ post) ∙ ap (λ (y : List ℕ). putWords y j (v ∷ post)) same ∙ put-append s j (v ∷ []) post
-    ∙ ap (putWords x (j + 1)) (sym tail) ∙ words-same x (j + 1) (length post) (λ i h. let f = far i h in let c = b i (omega arith) in omega arith)
+    let tail : wordsIn x (j + length mid) (length post) ≡ post = words-agree x s (j + length mid) (length post) (λ i h l. far i h) ∙ d in
+    put-append s k pre (mid ++ post) ∙ ap (λ (y : List ℕ). putWords y j (mid ++ post)) same ∙ put-append s j mid post
+    ∙ ap (putWords x (j + length mid)) (sym tail) ∙ words-same x (j + length mid) (length post) (λ i h. let f = far i h in let c = b i (omega arith) in omega arith)
 
--- the words of a command: behind its phase, and behind its stalls
+-- the words of a command behind its phase, up to its toggle; and behind its stalls
 abbrev behindPhase : Cmd → List ℕ
-behindPhase c = 0 ∷ c .post .op ∷ c .post .«op_mod» ∷ c .post .«in_mod» ∷ c .post .«in_param» ∷ c .post .«out_param» ∷ bitOf (c .toggle) ∷ []
+behindPhase c = c .post .op ∷ c .post .«op_mod» ∷ c .post .«in_mod» ∷ c .post .«in_param» ∷ c .post .«out_param» ∷ []
 
 abbrev behindStalls : Cmd → List ℕ
 behindStalls c = at (catasWords (c .catas)) 0 ∷ at (catasWords (c .catas)) 1 ∷ at (catasWords (c .catas)) 2 ∷ []
 
-abbrev behindBoth : Cmd → List ℕ
-behindBoth c = behindPhase c ++ (c .stalls ∷ behindStalls c)
+module _ (s : List ℕ) (c : Cmd) (b : Bytes s) (d : wordsIn s 0 13 ≡ cmdWords c) where
+  -- another phase
+  phase-bytes : (f : Phase) → putHot s (t.Cmd (inPhase c f)) ≡ putWords s 1 (at (phaseWords f) 0 ∷ at (phaseWords f) 1 ∷ [])
+  unfolding wordsIn
+  phase-bytes f =
+      some s 0 (8 ∷ []) (at (phaseWords f) 0 ∷ at (phaseWords f) 1 ∷ []) (behindPhase c ++ (bitOf (c .toggle) ∷ c .stalls ∷ behindStalls c)) (λ i g. b i) (ap (λ (w : List ℕ). at w 0 ∷ []) d)
+      (ap (λ (w : List ℕ). at w 3 ∷ at w 4 ∷ at w 5 ∷ at w 6 ∷ at w 7 ∷ at w 8 ∷ at w 9 ∷ at w 10 ∷ at w 11 ∷ at w 12 ∷ []) d)
 
--- while a poll goes on, the bytes with the new task are those with its phase alone, or with its phase and its stalls
-stall-bytes : (s : List ℕ) (c : Cmd) → Bytes s → c .phase ≡ ph.Poll → wordsIn s 0 13 ≡ cmdWords c → putHot s (t.Cmd (inPhase c ph.Wait)) ≡ putWords s 1 (5 ∷ [])
-unfolding wordsIn
-stall-bytes s c b h e =
-    let d = e ∙ ap (λ (f : Phase). cmdWords (inPhase c f)) h in
-    one s 0 (8 ∷ []) 5 (behindBoth c) (λ i g. b i) (ap (λ (w : List ℕ). at w 0 ∷ []) d)
-    (ap (λ (w : List ℕ). at w 2 ∷ at w 3 ∷ at w 4 ∷ at w 5 ∷ at w 6 ∷ at w 7 ∷ at w 8 ∷ at w 9 ∷ at w 10 ∷ at w 11 ∷ at w 12 ∷ []) d)
+  -- the phase of a poll, and words from k on behind it, up to the stalls
+  abbrev polling : List ℕ
+  polling = putWords s 1 (4 ∷ 0 ∷ [])
 
-read-bytes : (s : List ℕ) (c : Cmd) (n : ℕ) → Bytes s → c .phase ≡ ph.Wait → wordsIn s 0 13 ≡ cmdWords c
-    → putHot s (t.Cmd (stalledBy c n)) ≡ putWords (putWords s 1 (4 ∷ [])) 9 (n ∷ [])
-unfolding wordsIn
-read-bytes s c n b h e =
-    let d = e ∙ ap (λ (f : Phase). cmdWords (inPhase c f)) h in
-    let x = putWords s 1 (4 ∷ []) in
-    let far : (i : ℕ) → 16 ≤ i → getD x i 0 ≡ getD s i 0 = λ i g. words-after s 1 (4 ∷ []) i g in
-    let inner : putWords s 0 (8 ∷ 4 ∷ behindPhase c) ≡ x =
-    one s 0 (8 ∷ []) 4 (behindPhase c) (λ i g. b i) (ap (λ (w : List ℕ). at w 0 ∷ []) d)
-    (ap (λ (w : List ℕ). at w 2 ∷ at w 3 ∷ at w 4 ∷ at w 5 ∷ at w 6 ∷ at w 7 ∷ at w 8 ∷ []) d) in
-    put-append s 0 (8 ∷ 4 ∷ behindPhase c) (n ∷ behindStalls c) ∙ ap (λ (y : List ℕ). putWords y 9 (n ∷ behindStalls c)) inner
-    ∙ one x 9 [] n (behindStalls c) (λ i g. let f = far i (omega arith) in let z = b i in omega arith) refl
-    (words-agree x s 10 3 (λ i g l. far i (omega arith)) ∙ ap (λ (w : List ℕ). at w 10 ∷ at w 11 ∷ at w 12 ∷ []) d)
+  far : (i : ℕ) → 24 ≤ i → getD polling i 0 ≡ getD s i 0
+  far i g = words-after s 1 (4 ∷ 0 ∷ []) i g
+
+  polls : (i : ℕ) → 24 ≤ i → getD polling i 0 < 256
+  polls i g = let f = far i g in let z = b i in omega arith
+
+  stalls-bytes : (m : ℕ) → putHot s (t.Cmd (stalledBy c m)) ≡ putWords polling 9 (m ∷ [])
+  unfolding wordsIn
+  stalls-bytes m =
+      put-append s 0 (8 ∷ 4 ∷ 0 ∷ (behindPhase c ++ (bitOf (c .toggle) ∷ []))) (m ∷ behindStalls c)
+      ∙ ap (λ (y : List ℕ). putWords y 9 (m ∷ behindStalls c))
+      (some s 0 (8 ∷ []) (4 ∷ 0 ∷ []) (behindPhase c ++ (bitOf (c .toggle) ∷ [])) (λ i g. b i) (ap (λ (w : List ℕ). at w 0 ∷ []) d)
+      (ap (λ (w : List ℕ). at w 3 ∷ at w 4 ∷ at w 5 ∷ at w 6 ∷ at w 7 ∷ at w 8 ∷ []) d))
+      ∙ some polling 9 [] (m ∷ []) (behindStalls c) (λ i g. polls i (omega arith)) refl
+      (words-agree polling s 10 3 (λ i g l. far i (omega arith)) ∙ ap (λ (w : List ℕ). at w 10 ∷ at w 11 ∷ at w 12 ∷ []) d)
+
+  posted-bytes : putHot s (t.Cmd (posted c)) ≡ putWords polling 8 (bitOf (not (c .toggle)) ∷ 0 ∷ [])
+  unfolding wordsIn
+  posted-bytes =
+      put-append s 0 (8 ∷ 4 ∷ 0 ∷ behindPhase c) (bitOf (not (c .toggle)) ∷ 0 ∷ behindStalls c)
+      ∙ ap (λ (y : List ℕ). putWords y 8 (bitOf (not (c .toggle)) ∷ 0 ∷ behindStalls c))
+      (some s 0 (8 ∷ []) (4 ∷ 0 ∷ []) (behindPhase c) (λ i g. b i) (ap (λ (w : List ℕ). at w 0 ∷ []) d)
+      (ap (λ (w : List ℕ). at w 3 ∷ at w 4 ∷ at w 5 ∷ at w 6 ∷ at w 7 ∷ []) d))
+      ∙ some polling 8 [] (bitOf (not (c .toggle)) ∷ 0 ∷ []) (behindStalls c) (λ i g. polls i (omega arith)) refl
+      (words-agree polling s 10 3 (λ i g l. far i (omega arith)) ∙ ap (λ (w : List ℕ). at w 10 ∷ at w 11 ∷ at w 12 ∷ []) d)
+
+  -- what is written is the task that goes on
+  module _ (long : 3336 ≤ length s) where
+    to : (f : Phase) → pick (leb 24 (length s)) (putWords s 1 (at (phaseWords f) 0 ∷ at (phaseWords f) 1 ∷ [])) s ≡ putHot s (t.Cmd (inPhase c f))
+    to f = rw (le-leb 24 (length s) (omega arith)) (sym (phase-bytes f))
+
+    enough : (m : ℕ) → m ≤ 80 → leb m (length polling) ≡ true
+    enough m h = let l = length-words s 1 (4 ∷ 0 ∷ []) in le-leb m (length polling) (omega arith)
+
+    pub written : (z : Next) → goesOn z ≡ true → Known c z → stateAfter z s ≡ putHot s (t.Cmd (onTo c z))
+    written (n.Write i) g k = to (ph.Writing i)
+    written n.Fence g k = to ph.Fence
+    written n.Go g k = to ph.Go
+    written (n.Posted y) g k = rw (le-leb 24 (length s) (omega arith), enough 80 (omega arith), k) (sym posted-bytes)
+    written (n.Stall us) g k = to ph.Wait
+    written (n.Read m) g k = rw (le-leb 24 (length s) (omega arith), enough 80 (omega arith)) (sym (stalls-bytes m))
+    written n.Fenced g k = to ph.Fenced
+    written n.Status g k = to ph.Status
+    written n.High g k = to ph.High
+    written (n.Low v) g k = to (ph.Low v)
+    written n.Other g k = not-so g
+
+-- THE QUESTION: that of the task that goes on
+pub asks-on : (s : List ℕ) (c : Cmd) → 3336 ≤ length s → cmdOf (wordsIn s 0 13) ≡ c → (z : Next) → goesOn z ≡ true → Known c z → asked z s ≡ cmdAsks (onTo c z)
+unfolding cmdAsks wordsIn
+asks-on s c long e (n.Write i) g k = rw (le-leb 72 (length s) (omega arith)) (ap (λ (y : Cmd). cmdAsks (inPhase y (ph.Writing i))) e)
+asks-on s c long e n.Fence g k = refl
+asks-on s c long e n.Go g k = rw (le-leb 72 (length s) (omega arith)) (ap (λ (y : Cmd). cmdAsks (inPhase y ph.Go)) e)
+asks-on s c long e (n.Posted y) g k = refl
+asks-on s c long e (n.Stall us) g k = rw k refl
+asks-on s c long e (n.Read m) g k = refl
+asks-on s c long e n.Fenced g k = refl
+asks-on s c long e n.Status g k = refl
+asks-on s c long e n.High g k = refl
+asks-on s c long e (n.Low v) g k = refl
+asks-on s c long e n.Other g k = not-so g
 
 -- WHAT IS LENT is long enough
 and-true : (b d : Bool) → b && d ≡ true → (b ≡ true) × (d ≡ true)
 and-true true d e = (refl, e)
-and-true false d e = absurd (let z : _≡_ {A = ℕ} 0 1 = ap (λ (x : Bool). pick x 1 0) e in omega arith)
+and-true false d e = not-so e
 
 not-true : (b : Bool) → not b ≡ true → b ≡ false
-not-true true e = absurd (let z : _≡_ {A = ℕ} 0 1 = ap (λ (x : Bool). pick x 1 0) e in omega arith)
+not-true true e = not-so e
 not-true false e = refl
 
-pub record Ready (s i b : List ℕ) (n : ℕ) (w : List ℕ) : Type 0 where
+pub record Ready (s i b : List ℕ) (m : ℕ) (w : List ℕ) : Type 0 where
   pub enough : 3336 ≤ length s
-  pub lent : eqb (length i) 4096 && (eqb (length b) 4096 && leb n 256) ≡ true
+  pub lent : eqb (length i) 4096 && (eqb (length b) 4096 && leb m 256) ≡ true
   pub room : ltb (length w) 40 ≡ false
 
-pub ready : (s i b : List ℕ) (n : ℕ) (w : List ℕ) → readyFor s i b n w ≡ true → Ready s i b n w
-ready s i b n w e =
-    let q = and-true (not (ltb (length s) 3336)) (eqb (length i) 4096 && (eqb (length b) 4096 && (not (ltb 256 n) && leb 40 (length w)))) e in
-    let q1 = and-true (eqb (length i) 4096) (eqb (length b) 4096 && (not (ltb 256 n) && leb 40 (length w))) (q .1) in
-    let q2 = and-true (eqb (length b) 4096) (not (ltb 256 n) && leb 40 (length w)) (q1 .1) in
-    let q3 = and-true (not (ltb 256 n)) (leb 40 (length w)) (q2 .1) in
-    let few : n ≤ 256 = ltb-false 256 n (not-true (ltb 256 n) (q3 .0)) in
+pub ready : (s i b : List ℕ) (m : ℕ) (w : List ℕ) → readyFor s i b m w ≡ true → Ready s i b m w
+ready s i b m w e =
+    let q = and-true (not (ltb (length s) 3336)) (eqb (length i) 4096 && (eqb (length b) 4096 && (not (ltb 256 m) && leb 40 (length w)))) e in
+    let q1 = and-true (eqb (length i) 4096) (eqb (length b) 4096 && (not (ltb 256 m) && leb 40 (length w))) (q .1) in
+    let q2 = and-true (eqb (length b) 4096) (not (ltb 256 m) && leb 40 (length w)) (q1 .1) in
+    let q3 = and-true (not (ltb 256 m)) (leb 40 (length w)) (q2 .1) in
+    let few : m ≤ 256 = ltb-false 256 m (not-true (ltb 256 m) (q3 .0)) in
     record {
       enough = ltb-false (length s) 3336 (not-true (ltb (length s) 3336) (q .0));
-      lent = rw (q1 .0, q2 .0, le-leb n 256 few) refl;
+      lent = rw (q1 .0, q2 .0, le-leb m 256 few) refl;
       room = le-ltb (length w) 40 (leb-true 40 (length w) (q3 .1));
     }
 
@@ -287,79 +325,98 @@ goes-whole : (x : Session) (v : Answer) (r : List ℕ) (u : Top) (s i b w : List
 unfolding answered answerKnown stepOf stepIn stepOut
 goes-whole x v r u s i b w k bs d y g =
     let h = given s x d in
-    let n = counts-of s x (h .stand) in
+    let m = counts-of s x (h .stand) in
     let wrote : encodedIn s (withTask x k) ≡ putHot s k = rw (le-ltb (length s) 3336 (y .enough)) (poll-alone s x k bs d) in
-    sym (simp (d, le-leb (x .books .lists .ranges) 14 (n .0), le-leb (x .books .lists .lends) 64 (n .1), g .suits, y .lent, y .room, g .next, g .still, wrote))
+    sym (simp (d, le-leb (x .books .lists .ranges) 14 (m .0), le-leb (x .books .lists .lends) 64 (m .1), g .suits, y .lent, y .room, g .next, g .still, wrote))
 
 -- the words of the task
 pub task-words : (s : List ℕ) (x : Session) → decodeOf s ≡ value x → wordsIn s 0 13 ≡ taskWords (x .work .task)
 task-words s x d = let h = given s x d in parts-of s x (h .reads) (h .stand) .task
 
-pub task-poll : (s : List ℕ) (x : Session) → decodeOf s ≡ value x → 3336 ≤ length s → pollIn s ≡ pollOf (taskWords (x .work .task))
+task-next : (s : List ℕ) (x : Session) (v : Answer) → decodeOf s ≡ value x → 3336 ≤ length s → nextOf (firstWords s) v ≡ nextOf (taskWords (x .work .task)) v
 unfolding wordsIn
-task-poll s x d h =
-    let near : pollIn s ≡ pollOf (wordsIn s 0 13) = rw (le-leb 80 (length s) (omega arith)) refl in
-    near ∙ ap pollOf (task-words s x d)
-
--- POLLED BYTES THAT HOLD A SESSION: an answer by the poll's own words is the answer by the whole session
-pub reading-goes : (x : Session) (v : Answer) (r : List ℕ) (n : ℕ) (q : Reading (x .work .task) n v) → Goes x v r (t.Cmd (inPhase (q .cmd) ph.Wait))
-unfolding cmdAsks cmdStepOf
-reading-goes x v r n q = record {
-  suits = simp (q .is, q .phase, q .says .is);
-  still = simp (q .is, q .phase);
-  next = simp (q .is, q .phase, q .says .is, q .says .pending, q .says .early);
-}
-
-pub waiting-goes : (x : Session) (v : Answer) (r : List ℕ) (n : ℕ) (q : Waiting (x .work .task) n v) → Goes x v r (t.Cmd (stalledBy (q .cmd) n))
-unfolding cmdAsks cmdStepOf
-waiting-goes x v r n q = record {
-  suits = simp (q .is, q .phase, q .says .is);
-  still = simp (q .is, q .phase);
-  next = simp (q .is, q .phase, q .says .is, q .says .early, q .says .same);
-}
-
--- the bytes that a poll leaves are those with its new task
-pub stall-hot : (s : List ℕ) (x : Session) (c : Cmd) → Bytes s → decodeOf s ≡ value x → 3336 ≤ length s → x .work .task ≡ t.Cmd c → c .phase ≡ ph.Poll → stallIn s ≡ putHot s (t.Cmd (inPhase c ph.Wait))
-stall-hot s x c bs d h is phase = rw (le-leb 16 (length s) (omega arith)) (sym (stall-bytes s c bs phase (task-words s x d ∙ ap taskWords is)))
-
-pub read-hot : (s : List ℕ) (x : Session) (c : Cmd) (n : ℕ) → Bytes s → decodeOf s ≡ value x → 3336 ≤ length s → x .work .task ≡ t.Cmd c → c .phase ≡ ph.Wait → readIn s n ≡ putHot s (t.Cmd (stalledBy c n))
-read-hot s x c n bs d h is phase =
-    let z = putWords s 1 (4 ∷ []) in
-    let l = length-words s 1 (4 ∷ []) in
-    rw (le-leb 16 (length s) (omega arith), le-leb 80 (length z) (omega arith)) (sym (read-bytes s c n bs phase (task-words s x d ∙ ap taskWords is)))
-
-stalled-is : (s i b w : List ℕ) (x : Session) (v : Answer) (r : List ℕ) (u : Top) (n : ℕ) → Bytes s → decodeOf s ≡ value x → Ready s i b (u .count) w
-    → Reading (x .work .task) n v → onwardBy (o.Stall n) v r u s i b w ≡ answered v r u s i b w
-unfolding cmdAsks
-stalled-is s i b w x v r u n bs d y q =
-    let c = q .cmd in
-    let bytes = stall-hot s x c bs d (y .enough) (q .is) (q .phase) in
-    rw (bytes, sym (q .says .same)) (goes-whole x v r u s i b w (t.Cmd (inPhase c ph.Wait)) bs d y (reading-goes x v r n q))
-
-read-is : (s i b w : List ℕ) (x : Session) (v : Answer) (r : List ℕ) (u : Top) (n : ℕ) → Bytes s → decodeOf s ≡ value x → Ready s i b (u .count) w
-    → Waiting (x .work .task) n v → onwardBy (o.Read n) v r u s i b w ≡ answered v r u s i b w
-unfolding cmdAsks
-read-is s i b w x v r u n bs d y q =
-    let c = q .cmd in
-    let bytes = read-hot s x c n bs d (y .enough) (q .is) (q .phase) in
-    rw (bytes) (goes-whole x v r u s i b w (t.Cmd (stalledBy c n)) bs d y (waiting-goes x v r n q))
-
-pub poll-is-whole : (v : Answer) (r : List ℕ) (u : Top) (s i b w : List ℕ) (x : Session) → Bytes s → decodeOf s ≡ value x → answer v r u s i b w ≡ answered v r u s i b w
-unfolding answer cmdAsks
-poll-is-whole v r u s i b w x bs d = by (onwardOf s v i b (u .count) w) refl
+task-next s x v d h =
+    let near : nextOf (firstWords s) v ≡ nextOf (wordsIn s 0 13) v = rw (le-leb 80 (length s) (omega arith)) (firsts v) in
+    near ∙ ap (λ (w : List ℕ). nextOf w v) (task-words s x d)
   where
-    here : (y : Ready s i b (u .count) w) → pollIn s ≡ pollOf (taskWords (x .work .task))
-    here y = task-poll s x d (y .enough)
+    firsts : (y : Answer) → nextOf (wordsIn s 0 10) y ≡ nextOf (wordsIn s 0 13) y
+    firsts (a.Dword z) = refl
+    firsts a.Done = refl
+    firsts (a.Word z) = refl
+    firsts (a.Qword z) = refl
+    firsts a.Failed = refl
+    firsts (a.Handle z) = refl
+    firsts (a.Mapped z o) = refl
+    firsts a.List = refl
 
-    by : (z : Onward) → onwardOf s v i b (u .count) w ≡ z → onwardBy z v r u s i b w ≡ answered v r u s i b w
-    by o.Other e = refl
-    by (o.Stall n) e =
-        let q = leads (readyFor s i b (u .count) w) (pollOn (pollIn s) v) (o.Stall n) (λ h. let z : _≡_ {A = ℕ} 0 2 = h in omega arith) e in
-        let y = ready s i b (u .count) w (q .0) in
-        let m = task-stalls (x .work .task) n v (ap (λ (z : Poll). pollOn z v) (sym (here y)) ∙ q .1) in
-        stalled-is s i b w x v r u n bs d y m
-    by (o.Read n) e =
-        let q = leads (readyFor s i b (u .count) w) (pollOn (pollIn s) v) (o.Read n) (λ h. let z : _≡_ {A = ℕ} 1 2 = h in omega arith) e in
-        let y = ready s i b (u .count) w (q .0) in
-        let m = task-reads (x .work .task) n v (ap (λ (z : Poll). pollOn z v) (sym (here y)) ∙ q .1) in
-        read-is s i b w x v r u n bs d y m
+-- the command, as the words have it
+abbrev cmdOr : Cmd → Task → Cmd
+cmdOr d (t.Cmd c) = c
+cmdOr d t.Rest = d
+cmdOr d (t.Attr y) = d
+cmdOr d (t.Claim y) = d
+cmdOr d t.Reset = d
+cmdOr d t.Bar = d
+cmdOr d (t.Make y) = d
+cmdOr d (t.Free y) = d
+cmdOr d t.Look = d
+cmdOr d (t.Part y) = d
+
+pub task-cmd : (s : List ℕ) (x : Session) (c : Cmd) → decodeOf s ≡ value x → x .work .task ≡ t.Cmd c → cmdOf (wordsIn s 0 13) ≡ c
+task-cmd s x c d is =
+    let w = wordsIn s 0 13 in
+    let head : at w 0 ≡ 8 = ap (λ (l : List ℕ). at l 0) (task-words s x d ∙ ap taskWords is) in
+    let here : taskOf w ≡ t.Cmd (cmdOf w) = rw head refl in
+    let read : taskOf w ≡ t.Cmd c = ap (λ (z : Session). z .work .task) (given s x d .reads) ∙ is in
+    ap (cmdOr c) (sym here ∙ read)
+
+-- BYTES THAT HOLD A SESSION whose command goes on
+module _ (v : Answer) (r : List ℕ) (u : Top) (s i b w : List ℕ) (x : Session) (bs : Bytes s) (d : decodeOf s ≡ value x) where
+  -- what is known where the answer leads on
+  pub record On (z : Next) : Type 0 where
+    pub lent : Ready s i b (u .count) w
+    pub cmd : Cmd
+    pub is : x .work .task ≡ t.Cmd cmd
+    pub took : Took cmd v z
+    pub goes : Goes x v r (t.Cmd (onTo cmd z))
+    pub bytes : stateAfter z s ≡ putHot s (t.Cmd (onTo cmd z))
+
+  leads : (q : Bool) (z y : Next) → pick q z n.Other ≡ y → goesOn y ≡ true → (q ≡ true) × (z ≡ y)
+  leads true z y e g = (refl, e)
+  leads false z y e g = not-so (ap goesOn e ∙ g)
+
+  pub on : (z : Next) → onwardOf s v i b (u .count) w ≡ z → goesOn z ≡ true → On z
+  on z e g =
+      let q = leads (readyFor s i b (u .count) w) (nextOf (firstWords s) v) z e g in
+      let y = ready s i b (u .count) w (q .0) in
+      let here : nextOf (taskWords (x .work .task)) v ≡ z = sym (task-next s x v d (y .enough)) ∙ q .1 in
+      let m = going (x .work .task) v (ap goesOn here ∙ g) in
+      let took = subst (Took (m .cmd) v) here (m .took) in
+      record {
+        lent = y;
+        cmd = m .cmd;
+        is = m .is;
+        took = took;
+        goes = record { suits = simp (m .is, took .suits); still = simp (m .is, took .still); next = simp (m .is, took .step) };
+        bytes = written s (m .cmd) bs (task-words s x d ∙ ap taskWords (m .is)) (y .enough) z g (took .known);
+      }
+
+  on-is : (z : Next) → goesOn z ≡ true → On z → after 0 (stateAfter z s) i b (outAfter z s w (u .count)) ≡ answered v r u s i b w
+  on-is z g o =
+      let y = o .lent in
+      let asks = asks-on s (o .cmd) (y .enough) (task-cmd s x (o .cmd) d (o .is)) z g (o .took .known) in
+      let out : outAfter z s w (u .count) ≡ turnIn w (asksOf (withTask x (t.Cmd (onTo (o .cmd) z)))) (u .count) = rw g (ap (λ (p : Question). turnIn w p (u .count)) asks) in
+      ap (λ (l : List ℕ). after 0 l i b (outAfter z s w (u .count))) (o .bytes) ∙ ap (λ (l : List ℕ). after 0 (putHot s (t.Cmd (onTo (o .cmd) z))) i b l) out
+      ∙ goes-whole x v r u s i b w (t.Cmd (onTo (o .cmd) z)) bs d y (o .goes)
+
+-- AN ANSWER by the words of its command is the answer by the whole session
+pub poll-is-whole : (v : Answer) (r : List ℕ) (u : Top) (s i b w : List ℕ) (x : Session) → Bytes s → decodeOf s ≡ value x → answer v r u s i b w ≡ answered v r u s i b w
+unfolding answer
+poll-is-whole v r u s i b w x bs d = by (goesOn (onwardOf s v i b (u .count) w)) refl
+  where
+    z : Next
+    z = onwardOf s v i b (u .count) w
+
+    by : (q : Bool) → goesOn z ≡ q → pick q (after 0 (stateAfter z s) i b (outAfter z s w (u .count))) (answered v r u s i b w) ≡ answered v r u s i b w
+    by true g = on-is v r u s i b w x bs d z g (on v r u s i b w x bs d z refl g)
+    by false g = refl

@@ -1,22 +1,23 @@
--- A POLL LEAVES A SESSION: where the bytes held one, they hold what the answer makes of it, though two words alone were written.
+-- A COMMAND THAT GOES ON LEAVES A SESSION: where the bytes held one, they hold what the answer makes of it, though its own words alone were written.
 use Prim.Native.Nat.{ℕ, _^_, _<_}
 use native.Mathlib.Omega.{arith}
 use mathlib.Core.Bool.{Bool, true, false}
 use mathlib.Core.List.{List}
 use mathlib.Core.Path.{_≡_, refl, ap, sym, subst, _∙_}
-use borrow.Author.Tests.{le-leb, ltb-true}
+use borrow.Author.Tests.{le-leb}
 use lib.Dec.{eqb}
-use Rattle.fields.specs.Outcome.{value}
+use Rattle.fields.specs.Outcome.{Outcome, value, refused}
 use Rattle.fields.specs.declared.Order.the-variants.{Little}
 use Rattle.fields.proofs.Laws.{Bytes, number-lt}
-use Rattle.words.specs.Words.{at, wordAt, wordsIn}
-use Rattle.words_task.specs.Coding.{taskWords, taskOf, cmdOf, catasOf}
-use Rattle.words_task.specs.Fits.{CatasFits, CmdFits}
+use Rattle.words.specs.Words.{wordAt, wordsIn}
+use Rattle.words_task.specs.Coding.{cmdOf, catasOf}
+use Rattle.words_task.specs.Fits.{CatasFits, PhaseFits, CmdFits}
 use Rattle.words_session.specs.Image.{decodeOf}
 use Rattle.words_laws.specs.Kept.{withTask}
 use Rattle.words_laws.proofs.Poll.{given, counts-of, polled}
-use Rattle.command.specs.Machine.{inPhase, stalledBy}
+use Rattle.command.specs.Machine.{inPhase, stalledBy, posted}
 use Rattle.command.specs.declared.Cmd.{Cmd}
+use Rattle.command.specs.declared.Phase.{Phase}
 use Rattle.command.specs.declared.Phase.the-variants as ph
 use Rattle.work.specs.declared.Task.{Task}
 use Rattle.work.specs.declared.Task.the-variants as t
@@ -24,11 +25,12 @@ use Rattle.fw_plan.specs.Calls.{stepOf}
 use Rattle.pci.specs.declared.Answer.{Answer}
 use Rattle.session.specs.declared.Top.{Top}
 use Rattle.session.specs.declared.Session.{Session}
-use Rattle.poll.specs.Poll.{pollIn, pollOn, readyFor, onwardOf, stallIn, readIn}
-use Rattle.poll.specs.declared.Poll.{Poll}
-use Rattle.poll.specs.declared.Onward.the-variants as o
-use Rattle.abi.specs.Kept.{answerNext, Keeps, Holds}
-use Rattle.abi.proofs.Poll.{leads, task-stalls, task-reads, Ready, ready, Goes, task-words, task-poll, reading-goes, waiting-goes, stall-hot, read-hot}
+use Rattle.in_place.specs.InPlace.{readyFor, onwardOf, goesOn, stateAfter}
+use Rattle.in_place.specs.declared.Next.{Next}
+use Rattle.in_place.specs.declared.Next.the-variants as n
+use Rattle.abi.specs.Kept.{answerNext, knownNext, heardNext, Keeps, Holds}
+use Rattle.abi.proofs.Calls.{not-so, none, Onward}
+use Rattle.abi.proofs.Poll.{onTo, Known, Ready, Goes, task-cmd, on}
 
 -- THE COMMAND THAT WAS READ: its numbers are below the bounds of their widths, since its words were cut to them
 record Small (c : Cmd) : Type 0 where
@@ -59,33 +61,34 @@ cmd-small s b = record {
   catas = by-tag (wordAt s 10) (wordAt s 11) (wordAt s 12) (number-lt Little s 96 8 b);
 }
 
-abbrev cmdOr : Cmd → Task → Cmd
-cmdOr d (t.Cmd c) = c
-cmdOr d t.Rest = d
-cmdOr d (t.Attr y) = d
-cmdOr d (t.Claim y) = d
-cmdOr d t.Reset = d
-cmdOr d t.Bar = d
-cmdOr d (t.Make y) = d
-cmdOr d (t.Free y) = d
-cmdOr d t.Look = d
-cmdOr d (t.Part y) = d
-
 task-small : (s : List ℕ) (x : Session) (c : Cmd) → Bytes s → decodeOf s ≡ value x → x .work .task ≡ t.Cmd c → Small c
-task-small s x c b d is =
-    let w = wordsIn s 0 13 in
-    let head : at w 0 ≡ 8 = ap (λ (l : List ℕ). at l 0) (task-words s x d ∙ ap taskWords is) in
-    let here : taskOf w ≡ t.Cmd (cmdOf w) = rw head refl in
-    let read : taskOf w ≡ t.Cmd c = ap (λ (z : Session). z .work .task) (given s x d .reads) ∙ is in
-    subst Small (ap (cmdOr c) (sym here ∙ read)) (cmd-small s b)
+task-small s x c b d is = subst Small (task-cmd s x c d is) (cmd-small s b)
 
-waits-small : (c : Cmd) → Small c → CmdFits (inPhase c ph.Wait)
-waits-small c h =
-    record { phase = tt; op = h .op; op-mod = h .op-mod; in-mod = h .in-mod; in-param = h .in-param; out-param = h .out-param; stalls = h .stalls; catas = h .catas }
+-- so are those of the command that goes on
+phase-small : (c : Cmd) (f : Phase) → PhaseFits f → Small c → CmdFits (inPhase c f)
+phase-small c f k h =
+    record { phase = k; op = h .op; op-mod = h .op-mod; in-mod = h .in-mod; in-param = h .in-param; out-param = h .out-param; stalls = h .stalls; catas = h .catas }
 
 stalled-small : (c : Cmd) (n : ℕ) → n < 2 ^ 32 → Small c → CmdFits (stalledBy c n)
 stalled-small c n l h =
     record { phase = tt; op = h .op; op-mod = h .op-mod; in-mod = h .in-mod; in-param = h .in-param; out-param = h .out-param; stalls = l; catas = h .catas }
+
+posted-small : (c : Cmd) → Small c → CmdFits (posted c)
+posted-small c h =
+    record { phase = tt; op = h .op; op-mod = h .op-mod; in-mod = h .in-mod; in-param = h .in-param; out-param = h .out-param; stalls = omega arith; catas = h .catas }
+
+on-small : (c : Cmd) (z : Next) → goesOn z ≡ true → Known c z → Small c → CmdFits (onTo c z)
+on-small c (n.Write i) g k h = phase-small c (ph.Writing i) k h
+on-small c n.Fence g k h = phase-small c ph.Fence tt h
+on-small c n.Go g k h = phase-small c ph.Go tt h
+on-small c (n.Posted y) g k h = posted-small c h
+on-small c (n.Stall us) g k h = phase-small c ph.Wait tt h
+on-small c (n.Read m) g k h = stalled-small c m k h
+on-small c n.Fenced g k h = phase-small c ph.Fenced tt h
+on-small c n.Status g k h = phase-small c ph.Status tt h
+on-small c n.High g k h = phase-small c ph.High tt h
+on-small c (n.Low v) g k h = phase-small c (ph.Low v) k h
+on-small c n.Other g k h = not-so g
 
 -- THE SESSION AFTER THE ANSWER is that with the new task
 goes-next : (x : Session) (v : Answer) (r : List ℕ) (u : Top) (s i b w : List ℕ) (k : Task) → decodeOf s ≡ value x → Ready s i b (u .count) w → Goes x v r k
@@ -95,26 +98,19 @@ goes-next x v r u s i b w k d y g =
     let n = counts-of s x (given s x d .stand) in
     simp (le-leb (x .books .lists .ranges) 14 (n .0), le-leb (x .books .lists .lends) 64 (n .1), g .suits, y .lent, y .room, g .next)
 
-module _ (v : Answer) (r : List ℕ) (u : Top) (s i b w : List ℕ) (bs : Bytes s) where
-  pub stall-holds : (n : ℕ) (z : List ℕ) → onwardOf s v i b (u .count) w ≡ o.Stall n → z ≡ stallIn s → Holds s z (answerNext v r u i b w)
-  unfolding Holds Keeps
-  stall-holds n z e f x d =
-      let q = leads (readyFor s i b (u .count) w) (pollOn (pollIn s) v) (o.Stall n) (λ h. let g : _≡_ {A = ℕ} 0 2 = h in omega arith) e in
-      let y = ready s i b (u .count) w (q .0) in
-      let m = task-stalls (x .work .task) n v (ap (λ (z : Poll). pollOn z v) (sym (task-poll s x d (y .enough))) ∙ q .1) in
-      let k = t.Cmd (inPhase (m .cmd) ph.Wait) in
-      ap decodeOf (f ∙ stall-hot s x (m .cmd) bs d (y .enough) (m .is) (m .phase)) ∙ polled s x k (waits-small (m .cmd) (task-small s x (m .cmd) bs d (m .is))) d
-      ∙ ap value (sym (goes-next x v r u s i b w k d y (reading-goes x v r n m)))
+-- THE BYTES after an answer that leads on hold what it makes of the session
+pub on-holds : (v : Answer) (r : List ℕ) (u : Top) (s i b w : List ℕ) → Bytes s → (z : Next) → onwardOf s v i b (u .count) w ≡ z → goesOn z ≡ true
+    → Holds s (stateAfter z s) (answerNext v r u i b w)
+unfolding Holds Keeps
+on-holds v r u s i b w bs z e g x d =
+    let o = on v r u s i b w x bs d z e g in
+    let k = t.Cmd (onTo (o .cmd) z) in
+    ap decodeOf (o .bytes) ∙ polled s x k (on-small (o .cmd) z g (o .took .known) (task-small s x (o .cmd) bs d (o .is))) d
+    ∙ ap value (sym (goes-next x v r u s i b w k d (o .lent) (o .goes)))
 
-  pub read-holds : (n : ℕ) (z : List ℕ) → onwardOf s v i b (u .count) w ≡ o.Read n → z ≡ readIn s n → Holds s z (answerNext v r u i b w)
-  unfolding Holds Keeps
-  read-holds n z e f x d =
-      let q = leads (readyFor s i b (u .count) w) (pollOn (pollIn s) v) (o.Read n) (λ h. let g : _≡_ {A = ℕ} 1 2 = h in omega arith) e in
-      let y = ready s i b (u .count) w (q .0) in
-      let m = task-reads (x .work .task) n v (ap (λ (z : Poll). pollOn z v) (sym (task-poll s x d (y .enough))) ∙ q .1) in
-      let k = t.Cmd (stalledBy (m .cmd) n) in
-      let few = ltb-true (m .cmd .stalls) 600990 (m .says .early) in
-      let same = m .says .same in
-      ap decodeOf (f ∙ read-hot s x (m .cmd) n bs d (y .enough) (m .is) (m .phase))
-      ∙ polled s x k (stalled-small (m .cmd) n (omega arith) (task-small s x (m .cmd) bs d (m .is))) d
-      ∙ ap value (sym (goes-next x v r u s i b w k d y (waiting-goes x v r n m)))
+-- the same of an answer as numbers
+pub goes-holds : (r : List ℕ) (u : Top) (s i b w : List ℕ) → Bytes s → (h : Outcome Answer) (z : Next) → Onward r u s i b w h z → goesOn z ≡ true → (l : List ℕ) → l ≡ stateAfter z s
+    → Holds s l (heardNext h r u i b w)
+unfolding knownNext
+goes-holds r u s i b w bs (value v) z e g l f = subst (λ (y : List ℕ). Holds s y (answerNext v r u i b w)) (sym f) (on-holds v r u s i b w bs z (sym e) g)
+goes-holds r u s i b w bs (refused m vs) z e g l f = not-so (sym (none s m vs (readyFor s i b (u .count) w)) ∙ ap goesOn (sym e) ∙ g)

@@ -9,9 +9,7 @@ use lib.ListN.{length}
 use Rattle.fields.specs.Outcome.{Outcome, value, refused, pick}
 use Rattle.words_calls.specs.Calls.{heardOf}
 use Rattle.words_session.specs.Image.{decodeOf}
-use Rattle.poll.specs.Poll.{onwardOf}
-use Rattle.poll.specs.declared.Onward.{Onward}
-use Rattle.poll.specs.declared.Onward.the-variants as v
+use Rattle.in_place.specs.InPlace.{onwardOf, goesOn, stateAfter, outAfter}
 use Rattle.pci.specs.declared.Refusal.{Refusal}
 use Rattle.pci.specs.declared.Question.{Question}
 use Rattle.pci.specs.declared.Answer.{Answer}
@@ -26,7 +24,7 @@ use Rattle.calls_plan.specs.Calls.{callable, callOf, callIn, callOut}
 use Rattle.calls_plan.specs.declared.Call.{Call}
 use Rattle.calls_plan.proofs.Refusals.{call-left}
 use Rattle.abi.specs.Turns.{After, after, codeBy, stateBy, outBy, taken, onSession, callKnown, answerKnown, called, answered}
-use Rattle.abi.specs.Calls.{wantedBy, callFrom, made, onwardBy, answer, heardBy, told}
+use Rattle.abi.specs.Calls.{wantedBy, callFrom, made, answer, heardBy, told}
 
 -- refused, and all four slices as they were
 abbrev pub Left : After → (state inbox outbox out : List ℕ) → Type 0
@@ -69,14 +67,14 @@ module _ (s i o w : List ℕ) where
   unfolding made
   made-left kind op opMod inMod x reserved y u = wanted-left (callFrom kind op opMod inMod x reserved) y u
 
-  onward-left : (z : Onward) (a : Answer) (r : List ℕ) (u : Top) → Left (onwardBy z a r u s i o w) s i o w
-  onward-left (v.Stall n) a r u = λ bad. absurd (bad refl)
-  onward-left (v.Read n) a r u = λ bad. absurd (bad refl)
-  onward-left v.Other a r u = answered-left a r u
+  onward-left : (y : Bool) (z : After) (a : Answer) (r : List ℕ) (u : Top) → z .code ≡ 0 → Left (pick y z (answered a r u s i o w)) s i o w
+  onward-left true z a r u e = λ bad. absurd (bad e)
+  onward-left false z a r u e = answered-left a r u
 
   heard-left : (z : Outcome Answer) (r : List ℕ) (u : Top) → Left (heardBy z r u s i o w) s i o w
   unfolding answer
-  heard-left (value a) r u = onward-left (onwardOf s a i o (u .count) w) a r u
+  heard-left (value a) r u =
+      let z = onwardOf s a i o (u .count) w in onward-left (goesOn z) (after 0 (stateAfter z s) i o (outAfter z s w (u .count))) a r u refl
   heard-left (refused n vs) r u = λ bad. refl
 
   pub told-left : (kind x y : ℕ) (r : List ℕ) (u : Top) → Left (told kind x y r u s i o w) s i o w

@@ -5,12 +5,9 @@ use mathlib.Core.List.{List, []}
 use lib.Dec.{eqb}
 use lib.ListN.{take, drop}
 use Rattle.fields.specs.Outcome.{Outcome, value, refused, pick}
-use Rattle.words_calls.specs.Calls.{turnIn, heardOf}
-use Rattle.hcr.specs.Words.{stallOf}
-use Rattle.poll.specs.Poll.{onwardOf, stallIn, readIn}
-use Rattle.poll.specs.declared.Onward.{Onward}
-use Rattle.poll.specs.declared.Onward.the-variants as v
-use Rattle.pci.specs.declared.Question.the-variants as q
+use Rattle.words_calls.specs.Calls.{heardOf}
+use Rattle.in_place.specs.InPlace.{onwardOf, goesOn, stateAfter, outAfter}
+use Rattle.in_place.specs.declared.Next.{Next}
 use Rattle.pci.specs.declared.Answer.{Answer}
 use Rattle.session.specs.declared.Form.{Form}
 use Rattle.session.specs.declared.Form.the-variants as f
@@ -61,11 +58,9 @@ made j op m n v r y u s i b o = wantedBy (callFrom j op m n v r) y u s i b o
 abbrev pub call : (kind op opMod inMod v : ℕ) → (input : List ℕ) → (list : List Undo) → (count : ℕ) → (state inbox outbox out : List ℕ) → After
 call j op m n v y l c s i b o = made j op m n v (anyReserved (drop v (take c l))) y (topOf l c) s i b o
 
--- AN ANSWER: the poll alone where it goes on, else by the whole session
-abbrev pub onwardBy : Onward → Answer → (resource : List ℕ) → Top → (state inbox outbox out : List ℕ) → After
-onwardBy (v.Stall n) a r u s i b w = after 0 (stallIn s) i b (turnIn w (q.Stall (stallOf n)) (u .count))
-onwardBy (v.Read n) a r u s i b w = after 0 (readIn s n) i b (turnIn w (q.RegRead 0 0x80698) (u .count))
-onwardBy v.Other a r u s i b w = answered a r u s i b w
+-- AN ANSWER: in place where the command goes on, else by the whole session
+abbrev pub onwardBy : Next → Answer → (resource : List ℕ) → Top → (state inbox outbox out : List ℕ) → After
+onwardBy z a r u s i b w = pick (goesOn z) (after 0 (stateAfter z s) i b (outAfter z s w (u .count))) (answered a r u s i b w)
 
 unfoldable pub answer : Answer → (resource : List ℕ) → Top → (state inbox outbox out : List ℕ) → After
 answer a r u s i b w = onwardBy (onwardOf s a i b (u .count) w) a r u s i b w
@@ -77,3 +72,8 @@ heardBy (refused n vs) r u s i b w = after n s i b w
 
 unfoldable pub told : (kind v x : ℕ) → (resource : List ℕ) → Top → (state inbox outbox out : List ℕ) → After
 told k v x r u s i b w = heardBy (heardOf k v x) r u s i b w
+
+-- the same without looking whether the command goes on
+abbrev pub wholeBy : Outcome Answer → (resource : List ℕ) → Top → (state inbox outbox out : List ℕ) → After
+wholeBy (value a) r u s i b w = answered a r u s i b w
+wholeBy (refused n vs) r u s i b w = after n s i b w

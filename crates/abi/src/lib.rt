@@ -1,6 +1,6 @@
 // What a function over C linkage does to the bytes it is lent: `specs/Turns.antt` a call and an answer on the bytes of a session, `specs/Calls.antt` the same from numbers
-// and from the caller's undo list, `specs/Readers.antt` what is read of a session; `proofs/` has that a call that is refused leaves everything, and that a poll is answered
-// from its few words as from the whole session.
+// and from the caller's undo list, `specs/Readers.antt` what is read of a session; `proofs/` has that a call that is refused leaves everything, and that a command that
+// goes on is answered from its own words as from the whole session.
 use calls_plan::Call;
 
 // A call at the wrong time, bytes that are no session, an answer of the wrong kind.

@@ -1,9 +1,8 @@
-// One answer to the open question of the session that bytes hold: it is read, the answer is taken, and it is written again; a poll that goes on touches its own words
-// alone. And an answer as its kind and its values.
+// One answer to the open question of the session that bytes hold: it is read, the answer is taken, and it is written again. And an answer as its kind and its values,
+// where a command that goes on touches its own words alone.
 use abi::SHORT;
 use abi::WRONG;
 use pci::Answer;
-use poll::Onward;
 use session::Session;
 use session::Top;
 use words_calls::Heard;
@@ -61,27 +60,28 @@ pub fn answer_bytes(
     }
 }
 
-// An answer of a known kind: a poll that goes on touches its own words alone.
-fn answer_told(
+// An answer as its kind and two values, by the whole session.
+fn answered_whole(
     state: &mut [u8],
-    a: Answer,
+    kind: u32,
+    a: u64,
+    b: u64,
     resource: &[u8],
     inbox: &mut [u8],
     outbox: &mut [u8],
     top: Top,
     out: &mut [u8],
 ) -> u32
-    ensures { λ r. ⌜ t.after r (now (state .exit)) (now (inbox .exit)) (now (outbox .exit)) (now (out .exit)) ≡ c.answer a (now (resource .entry)) top (now (state .entry)) (now (inbox .entry)) (now (outbox .entry)) (now (out .entry)) ⌝ }
-    ensures { λ _. ⌜ k.Holds (now (state .entry)) (now (state .exit)) (k.answerNext a (now (resource .entry)) top (now (inbox .entry)) (now (outbox .entry)) (now (out .entry))) ⌝ }
+    ensures { λ r. ⌜ t.after r (now (state .exit)) (now (inbox .exit)) (now (outbox .exit)) (now (out .exit)) ≡ c.wholeBy (heardOf kind a b) (now (resource .entry)) top (now (state .entry)) (now (inbox .entry)) (now (outbox .entry)) (now (out .entry)) ⌝ }
+    ensures { λ _. ⌜ k.Holds (now (state .entry)) (now (state .exit)) (k.heardNext (heardOf kind a b) (now (resource .entry)) top (now (inbox .entry)) (now (outbox .entry)) (now (out .entry))) ⌝ }
 {
-    match poll::leads(state, a, inbox, outbox, top.count, out) {
-        Onward::Stall(stalls) => poll::stall_next(state, stalls, top.count, out),
-        Onward::Read(stalls) => poll::read_next(state, stalls, top.count, out),
-        Onward::Other => answer_bytes(state, a, resource, inbox, outbox, top, out),
+    match words_calls::answer_from(kind, a, b) {
+        Heard::Told(x) => answer_bytes(state, x, resource, inbox, outbox, top, out),
+        Heard::Unknown => abi::WRONG,
     }
 }
 
-// An answer as its kind and two values.
+// An answer as its kind and two values: a command that goes on touches its own words alone.
 pub fn answered(
     state: &mut [u8],
     kind: u32,
@@ -95,8 +95,12 @@ pub fn answered(
 ) -> u32
     ensures { λ r. ⌜ (t.after r (now (state .exit)) (now (inbox .exit)) (now (outbox .exit)) (now (out .exit)) ≡ c.told kind a b (now (resource .entry)) top (now (state .entry)) (now (inbox .entry)) (now (outbox .entry)) (now (out .entry))) × k.Holds (now (state .entry)) (now (state .exit)) (k.heardNext (heardOf kind a b) (now (resource .entry)) top (now (inbox .entry)) (now (outbox .entry)) (now (out .entry))) ⌝ }
 {
-    match words_calls::answer_from(kind, a, b) {
-        Heard::Told(x) => answer_told(state, x, resource, inbox, outbox, top, out),
-        Heard::Unknown => abi::WRONG,
+    if in_place::is_ready(state, inbox, outbox, top.count, out) {
+        let next = in_place::next_at(state, kind, a);
+        if in_place::goes_on(next) {
+            return in_place::go_on(state, next, top.count, out);
+        }
+        return answered_whole(state, kind, a, b, resource, inbox, outbox, top, out);
     }
+    answered_whole(state, kind, a, b, resource, inbox, outbox, top, out)
 }

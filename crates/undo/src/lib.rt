@@ -71,22 +71,22 @@ fn last_place(count: usize) -> usize
 }
 
 // What a call takes of a list: the count and the newest record. A count above the slice's length is told as 257, more than any list holds, so that every call
-// refuses it with 21.
+// refuses it with 21. An empty list is looked for first: it is what most answers are lent.
 fn top_by(len: usize, count: usize, u: Undo) -> Top
     ensures { λ r. ⌜ r ≡ topBy len count u ⌝ }
 {
-    if len < count {
+    if count == 0 {
         return Top {
-            count: 257,
+            count: 0,
             op: 0,
             op_mod: 0,
             in_mod: 0,
             in_param: 0,
         };
     }
-    if count == 0 {
+    if len < count {
         return Top {
-            count: 0,
+            count: 257,
             op: 0,
             op_mod: 0,
             in_mod: 0,

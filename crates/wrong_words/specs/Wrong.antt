@@ -15,11 +15,9 @@ use Rattle.words_books.specs.Coding.{refusalWords, refusalOf, bufferWords, buff
 use Rattle.words_books.specs.declared.Ledger.{Ledger}
 use Rattle.words_session.specs.Image.{toldFor, decodeOf, wroteOf, encodedIn, putSession}
 use Rattle.words_calls.specs.Calls.{questionWords, turnIn, heardOf}
-use Rattle.poll.specs.Poll.{pollOf, pollOn, onwardOf, stallIn, readIn}
-use Rattle.poll.specs.declared.Poll.{Poll}
-use Rattle.poll.specs.declared.Poll.the-variants as pl
-use Rattle.poll.specs.declared.Onward.{Onward}
-use Rattle.poll.specs.declared.Onward.the-variants as po
+use Rattle.in_place.specs.InPlace.{nextOf, readyFor, goesOn, stateAfter, outAfter}
+use Rattle.in_place.specs.declared.Next.{Next}
+use Rattle.in_place.specs.declared.Next.the-variants as nx
 use Rattle.results.specs.Results.{outcomeWords, merged, portsOf, putSaid, setupIn}
 use Rattle.bars.specs.declared.BarRange.{BarRange}
 use Rattle.bars.specs.declared.BarRange.the-variants as br
@@ -27,7 +25,6 @@ use Rattle.bars.specs.declared.Candidate.{Candidate}
 use Rattle.bars.specs.declared.Asking.the-variants as ba
 use Rattle.dma.specs.declared.Buffer.{Buffer}
 use Rattle.dma.specs.declared.Virt.the-variants as lv
-use Rattle.hcr.specs.Words.{stallOf}
 use Rattle.hcr.specs.declared.Post.{Post}
 use Rattle.pci.specs.declared.Question.the-variants as q
 use Rattle.pci.specs.declared.Answer.{Answer}
@@ -343,58 +340,80 @@ calls =
     (0 ∷ 5 ∷ 0 ∷ 4 ∷ 0 ∷ 6 ∷ 7 ∷ 0 ∷ 7 ∷ 0x5000 ∷ 4096 ∷ 0 ∷ 8 ∷ []) (0 ∷ 4 ∷ 0 ∷ 5 ∷ 0 ∷ 6 ∷ 7 ∷ 0 ∷ 7 ∷ 4096 ∷ 0x5000 ∷ 0 ∷ 8 ∷ []) ∷
     []
 
--- A COMMAND THAT IS POLLED
-abbrev toldOnward : Onward → List ℕ
-toldOnward po.Other = 0 ∷ []
-toldOnward (po.Stall n) = 1 ∷ n ∷ []
-toldOnward (po.Read n) = 2 ∷ n ∷ []
-
-abbrev toldPoll : Poll → List ℕ
-toldPoll pl.Other = 0 ∷ []
-toldPoll (pl.Read t n) = 1 ∷ bitOf t ∷ n ∷ []
-toldPoll (pl.Wait n) = 2 ∷ n ∷ []
+-- A COMMAND THAT GOES ON: what comes next, as a number and its value
+abbrev toldNext : Next → List ℕ
+toldNext nx.Other = 0 ∷ []
+toldNext (nx.Write i) = 1 ∷ i ∷ []
+toldNext nx.Fence = 2 ∷ []
+toldNext nx.Go = 3 ∷ []
+toldNext (nx.Posted g) = 4 ∷ g ∷ []
+toldNext (nx.Stall us) = 5 ∷ us ∷ []
+toldNext (nx.Read n) = 6 ∷ n ∷ []
+toldNext nx.Fenced = 7 ∷ []
+toldNext nx.Status = 8 ∷ []
+toldNext nx.High = 9 ∷ []
+toldNext (nx.Low v) = 10 ∷ v ∷ []
 
 -- the first ten words of a command with toggle 1
-abbrev tenWords : (phase stalls : ℕ) → List ℕ
-tenWords p n = 8 ∷ p ∷ 0 ∷ 0x43 ∷ 1 ∷ 2 ∷ 5 ∷ 6 ∷ 1 ∷ n ∷ []
+abbrev tenWords : (phase value stalls : ℕ) → List ℕ
+tenWords p i n = 8 ∷ p ∷ i ∷ 0x43 ∷ 1 ∷ 2 ∷ 5 ∷ 6 ∷ 1 ∷ n ∷ []
 
-abbrev polls : ℕ → ℕ → Answer → List ℕ
-polls p n x = toldOnward (pollOn (pollOf (tenWords p n)) x)
+abbrev ten : (phase stalls : ℕ) → List ℕ
+ten p n = putWords (zeros 80) 0 (tenWords p 0 n)
 
--- leads at a pending status, after three stalls, with an outbox of so many bytes
-abbrev leadsWith : ℕ → List ℕ
-leadsWith n = toldOnward (onwardOf (putWords (zeros 80) 0 (tenWords 4 3) ++ zeros 3256) (a.Dword 0x2000) (zeros 4096) (zeros n) 0 (zeros 40))
+abbrev nexts : (phase value stalls : ℕ) → Answer → List ℕ
+nexts p i n x = toldNext (nextOf (tenWords p i n) x)
 
-abbrev pub polling : List Row
-polling =
-    -- leads, the command: the toggle is read from the word of the stalls; a stall is under way
-    row (toldPoll (pollOf (tenWords 4 3))) (1 ∷ 0 ∷ 3 ∷ []) (2 ∷ 3 ∷ []) ∷
-    -- leads, a stall that is under way: the status is read; none
-    row (toldPoll (pollOf (tenWords 5 3))) (1 ∷ 1 ∷ 3 ∷ []) (0 ∷ []) ∷
-    -- leads, another phase, another task, and stalls of 33 bits: a phase as good as another; stalls cut to 32 bits
-    row (toldPoll (pollOf (tenWords 6 3)) ++ (toldPoll (pollOf (5 ∷ 4 ∷ zeros 8)) ++ toldPoll (pollOf (tenWords 5 4294967296)))) (1 ∷ 1 ∷ 3 ∷ 0 ∷ 0 ∷ []) (0 ∷ 0 ∷ 2 ∷ 0 ∷ []) ∷
-    -- leads, pending: the toggle is read from the word of the stalls; the stall is counted before it is made
-    row (polls 4 3 (a.Dword 0x2000)) (0 ∷ []) (1 ∷ 4 ∷ []) ∷
-    -- leads, not pending, and failed: a stall more at an end; at a failed read
-    row (polls 4 3 (a.Dword 0) ++ polls 4 3 a.Failed) (1 ∷ 3 ∷ 0 ∷ []) (0 ∷ 1 ∷ 3 ∷ []) ∷
-    -- leads, a stall was made: it is not counted; the poll does not go on
-    row (polls 5 3 a.Done) (2 ∷ 3 ∷ []) (0 ∷ []) ∷
-    -- leads, the last stalls (600,989 and 600,990 made): one more; one fewer
-    row (polls 5 600989 a.Done ++ polls 5 600990 a.Done) (2 ∷ 600990 ∷ 2 ∷ 600991 ∷ []) (0 ∷ 0 ∷ []) ∷
-    -- leads, a stall that failed, which it cannot: it was made; read without it
-    row (polls 5 3 a.Failed) (2 ∷ 4 ∷ []) (2 ∷ 3 ∷ []) ∷
-    -- leads, where less is lent than is asked for: the poll goes on; another question
-    row (toldOnward (onwardOf [] (a.Dword 0x2000) [] [] 0 [])) (1 ∷ 0 ∷ []) (2 ∷ 0 ∷ []) ∷
-    -- leads with mailboxes of 4,096 bytes, and with an outbox of 4,097: the poll goes on whatever the outbox's length; with 4,097 alone
-    row (leadsWith 4096 ++ leadsWith 4097) (1 ∷ 3 ∷ 1 ∷ 3 ∷ []) (0 ∷ 1 ∷ 3 ∷ []) ∷
-    -- stall_next, the state: a stall is kept as a read; one word further
-    row (stallIn (zeros 24)) (zeros 8 ++ (4 ∷ zeros 15)) (zeros 16 ++ (5 ∷ zeros 7)) ∷
-    -- read_next, the state (words 1, 8 and 9): the stalls are written over the toggle; the phase is left as it was
-    row (wordsIn (readIn (putWords (zeros 80) 0 (tenWords 5 3)) 4) 1 1 ++ wordsIn (readIn (putWords (zeros 80) 0 (tenWords 5 3)) 4) 8 2) (4 ∷ 4 ∷ 3 ∷ []) (5 ∷ 1 ∷ 4 ∷ []) ∷
-    -- stall_next, the question after 1,000 stalls: a short one; the count of undo records is not told
-    row (wordsIn (turnIn (zeros 40) (q.Stall (stallOf 1000)) 9) 0 5) (9 ∷ 1 ∷ 0 ∷ 0 ∷ 9 ∷ []) (9 ∷ 100 ∷ 0 ∷ 0 ∷ 0 ∷ []) ∷
-    -- read_next, the question: the owner; a stall
-    row (wordsIn (turnIn (zeros 40) (q.RegRead 0 0x80698) 9) 0 5) (5 ∷ 0 ∷ 0x8069c ∷ 0 ∷ 9 ∷ []) (9 ∷ 1 ∷ 0 ∷ 0 ∷ 9 ∷ []) ∷
+-- what is lent, with an outbox of so many bytes, and so many undo records
+abbrev lends : (outbox undo : ℕ) → ℕ
+lends n m = yes (readyFor (zeros 3336) (zeros 4096) (zeros n) m (zeros 40))
+
+abbrev pub goingOn : List Row
+goingOn =
+    -- next_at, before posting, not pending: the fence; taken for busy
+    row (nexts 0 0 0 (a.Dword 0)) (2 ∷ []) (0 ∷ []) ∷
+    -- next_at, before posting, pending: posted over a command that runs; a stall
+    row (nexts 0 0 0 (a.Dword 0x2000)) (1 ∷ 0 ∷ []) (5 ∷ 1 ∷ []) ∷
+    -- next_at, words 4 and 5 were written: word 4 again; the fence skipped
+    row (nexts 1 4 0 a.Done ++ nexts 1 5 0 a.Done) (1 ∷ 4 ∷ 2 ∷ []) (1 ∷ 5 ∷ 3 ∷ []) ∷
+    -- next_at, behind the fence: the fence again; taken for posted
+    row (nexts 2 0 0 a.Done) (2 ∷ []) (4 ∷ 0 ∷ []) ∷
+    -- next_at, posted: the toggle as it was; the fence behind a command
+    row (nexts 3 0 0 a.Done) (4 ∷ 1 ∷ []) (7 ∷ []) ∷
+    -- next_at, pending after three stalls: read again without a stall; a long stall
+    row (nexts 4 0 3 (a.Dword 0x2000)) (6 ∷ 3 ∷ []) (5 ∷ 100 ∷ []) ∷
+    -- next_at, pending after 600,989 stalls and 600,990: one more; one fewer
+    row (nexts 4 0 600989 (a.Dword 0x2000) ++ nexts 4 0 600990 (a.Dword 0x2000)) (5 ∷ 100 ∷ 5 ∷ 100 ∷ []) (0 ∷ 0 ∷ []) ∷
+    -- next_at, no longer pending, and failed: the fence skipped; a failed read taken for a good one
+    row (nexts 4 0 3 (a.Dword 0) ++ nexts 4 0 3 a.Failed) (8 ∷ 0 ∷ []) (7 ∷ 7 ∷ []) ∷
+    -- next_at, a stall was made: it is not counted; the command does not go on
+    row (nexts 5 0 3 a.Done) (6 ∷ 3 ∷ []) (0 ∷ []) ∷
+    -- next_at, a stall that failed, which it cannot: it was made; read without it
+    row (nexts 5 0 3 a.Failed) (6 ∷ 4 ∷ []) (6 ∷ 3 ∷ []) ∷
+    -- next_at, behind the second fence: the immediate without the status; the fence again
+    row (nexts 6 0 3 a.Done) (9 ∷ []) (7 ∷ []) ∷
+    -- next_at, the status is 0, and 0x50: a command's end taken for one that goes on; the high half is not read
+    row (nexts 7 0 3 (a.Dword 0) ++ nexts 7 0 3 (a.Dword 0x50)) (9 ∷ 9 ∷ []) (10 ∷ 0 ∷ 0 ∷ []) ∷
+    -- next_at, the high half: as the bus carries it; the end
+    row (nexts 8 0 3 (a.Dword 0x1000000)) (10 ∷ 0x1000000 ∷ []) (0 ∷ []) ∷
+    -- next_at, the low half, the catastrophic buffer, and another task: the low half is read again; another task taken for a command
+    row (nexts 9 1 3 (a.Dword 0) ++ (nexts 10 0 3 (a.Dword 0) ++ toldNext (nextOf (5 ∷ 4 ∷ zeros 8) (a.Dword 0x2000)))) (10 ∷ 1 ∷ 0 ∷ 0 ∷ []) (0 ∷ 0 ∷ 5 ∷ 1 ∷ []) ∷
+    -- is_ready, mailboxes of 4,096 bytes with 256 records, an outbox of 4,097, 257 records: whatever the outbox's length; one record more
+    row (lends 4096 256 ∷ lends 4097 0 ∷ lends 4096 257 ∷ []) (1 ∷ 1 ∷ 0 ∷ []) (1 ∷ 0 ∷ 1 ∷ []) ∷
+    -- goes_on, at a fence, and where it is not known: it always does; it never does
+    row (yes (goesOn nx.Fenced) ∷ yes (goesOn nx.Other) ∷ []) (1 ∷ 1 ∷ []) (0 ∷ 0 ∷ []) ∷
+    -- go_on, a stall, the state: kept as a read; one word further
+    row (stateAfter (nx.Stall 1) (zeros 32)) (zeros 8 ++ (4 ∷ zeros 23)) (zeros 16 ++ (5 ∷ zeros 15)) ∷
+    -- go_on, a stall that was made, the state (words 1, 8 and 9): the stalls are written over the toggle; the phase is left as it was
+    row (wordsIn (stateAfter (nx.Read 4) (ten 5 3)) 1 1 ++ wordsIn (stateAfter (nx.Read 4) (ten 5 3)) 8 2) (4 ∷ 4 ∷ 3 ∷ []) (5 ∷ 1 ∷ 4 ∷ []) ∷
+    -- go_on, posted, the state (words 1, 8 and 9): the toggle as it was; the stalls of the command before
+    row (wordsIn (stateAfter (nx.Posted 0) (ten 3 3)) 1 1 ++ wordsIn (stateAfter (nx.Posted 0) (ten 3 3)) 8 2) (4 ∷ 1 ∷ 0 ∷ []) (4 ∷ 0 ∷ 3 ∷ []) ∷
+    -- go_on, word 2, the question: as the card has it; that of the word behind it
+    row (wordsIn (outAfter (nx.Write 2) (ten 1 0) (zeros 40) 9) 0 5) (6 ∷ 0 ∷ 0x80688 ∷ 2 ∷ 9 ∷ []) (6 ∷ 0 ∷ 0x8068c ∷ 0 ∷ 9 ∷ []) ∷
+    -- go_on, the word that posts, the question: without GO; with the other toggle
+    row (wordsIn (outAfter nx.Go (ten 2 0) (zeros 40) 9) 0 5) (6 ∷ 0 ∷ 0x80698 ∷ 0x43102000 ∷ 9 ∷ []) (6 ∷ 0 ∷ 0x80698 ∷ 0x43108000 ∷ 9 ∷ []) ∷
+    -- go_on, the second half of the immediate, the question: the first half; a stall
+    row (wordsIn (outAfter (nx.Low 1) (ten 8 0) (zeros 40) 9) 0 5) (5 ∷ 0 ∷ 0x8068c ∷ 0 ∷ 9 ∷ []) (9 ∷ 1 ∷ 0 ∷ 0 ∷ 9 ∷ []) ∷
     []
 
 -- SESSIONS
@@ -437,13 +456,4 @@ results =
     []
 
 abbrev pub wrong : List Row
-wrong = words ++ tasks ++ besides ++ infos ++ stages ++ books ++ calls ++ polling ++ sessions ++ results
-
--- leads after so many stalls that the wait is not computed: hcr's laws give it
-abbrev pub late : List Row
-late =
-    -- after 600,990 stalls, pending: the poll goes on after 60,000,000 µs; the status is read again
-    row (polls 4 600990 (a.Dword 0x2000)) (1 ∷ 600990 ∷ []) (2 ∷ 600990 ∷ []) ∷
-    -- after 600,989 stalls, pending: a Timeout one stall early; the stall is counted before it is made
-    row (polls 4 600989 (a.Dword 0x2000)) (0 ∷ []) (1 ∷ 600990 ∷ []) ∷
-    []
+wrong = words ++ tasks ++ besides ++ infos ++ stages ++ books ++ calls ++ goingOn ++ sessions ++ results

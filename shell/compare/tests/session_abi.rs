@@ -283,42 +283,44 @@ fn a_full_undo_list() {
 /// A byte behind the first ten words that is 0 in every session: the highest of how many ranges there are.
 const RANGES: usize = 21 * 8 + 7;
 
-/// What the open question may be while a command is polled.
-fn polls(q: Question) -> bool {
-    matches!(q, Question::RegisterRead { bar: 0, offset: 0x80698 } | Question::Stall { us: 1 | 100 })
+/// The task is a command before and after the answer, and the phase of the later one is not its first.
+fn goes_on(before: &[u8], after: &[u8]) -> bool {
+    let is_command = |state: &[u8]| Words(state).at(0) == 8;
+    is_command(before) && is_command(after) && Words(after).at(1) != 0
 }
 
-/// An answer to a poll changes words 1 and 9 of the session at most, and looks at none behind word 9: damage there is found
-/// by the first answer that is not to a poll.
+/// An answer that does not end its command changes words 1, 2, 8 and 9 of the session at most, and looks at none behind
+/// word 9: damage there is found by the answer that ends it, and by any to another task.
 #[test]
-fn a_poll_touches_the_first_words_alone() {
+fn a_command_that_goes_on_touches_its_own_words_alone() {
     let mut case = cases::variants()[0].clone();
     case.plan.card.commands = vec![(world::plan::Which::Number(3), world::plan::Behaviour::after(1_005))];
     let mut bus = World::new(case.plan);
     let mut records = [Undo::default(); UNDO_RECORDS];
     let (mut session, mut undo) = (Session::new(), UndoList::new(&mut records));
     let mut q = session.begin(Call::Open, &mut undo).expect("a fresh session");
-    let (mut list, mut polled) = ([0; 64], 0);
+    let (mut list, mut went_on) = ([0; 64], 0);
     while q != Question::Finished {
         let before = Copies::of(&session);
         let answer = session.ask(&mut Over::new(&mut bus), &mut list);
         let mut damaged = before.clone();
         damaged.state[RANGES] = 1;
         let next = session.answer(answer, &mut undo).expect("an answer that suits");
-        if polls(q) && polls(next) && next != q {
-            polled += 1;
+        if goes_on(&before.state, session.state()) {
+            went_on += 1;
             let changed = |k: &usize| before.state[*k] != session.state()[*k];
-            assert!((0..abi::STATE).filter(changed).all(|k| [1, 9].contains(&(k / 8))), "{q:?}");
+            assert!((0..abi::STATE).filter(changed).all(|k| [1, 2, 8, 9].contains(&(k / 8))), "{q:?}");
             assert_eq!(damaged.call(|l| ffi::answer(l, answer.told())), 0, "{q:?}");
             damaged.state[RANGES] = 0;
             assert_eq!(damaged.state, session.state());
             assert_eq!(Question::of(&Words(&damaged.out)), Some(next));
-        } else if !polls(q) {
+        } else {
             refused(&damaged, abi::WRONG, "damage", |l| ffi::answer(l, answer.told()));
         }
         q = next;
     }
-    assert_eq!(polled, 2 * 1_005);
+    // Of a command 13 answers besides its polls go on, and one ends it.
+    assert_eq!(went_on, 24 * 13 + 2 * 1_005);
 }
 
 /// A handle is any number, 0 as well.
