@@ -1,5 +1,7 @@
 //! What is measured: openings and closes of one card, by the Rust and by the session, over worlds of one plan.
 
+pub mod callgrind;
+
 use std::cell::RefCell;
 use std::hint::black_box;
 use std::rc::Rc;
