@@ -23,7 +23,8 @@
  * not end its command looks at the first 80 bytes of the session alone; damage behind them is found by the next answer that does, or is to another task, and by every call.
  *
  * The library is for x86-64 with the System V calling convention, and uses the red zone: under UEFI its functions are called at TPL_HIGH_LEVEL. docs/SHELL.md says that, and what
- * a caller does at each question; docs/MAP.md has the states of a session; docs/BENCHMARK.md says how much stack a call needs.
+ * a caller does at each question; docs/MAP.md has the states of a session. hca_answer needs up to 86,584 bytes of
+ * stack, where an opening fails; docs/BENCHMARK.md has what the others need.
  */
 #ifndef HCA_H
 #define HCA_H
