@@ -12,7 +12,8 @@ ghost use Rattle.words_calls.specs.Calls.{turnIn};
 ghost use Rattle.in_place.specs.InPlace.{afterFirst, afterPoll, afterStatus, afterRead, afterWrite, afterStall, afterDone, Leads, firstWords, readyFor, goesOn};
 ghost use Rattle.in_place.specs.InPlace.{stored, stateAfter, postWords, askWrite, askGo, outAfter};
 
-// What a command that goes on asks next. The values are words, all of one width, so that the compiler sees through the match on them.
+// What a command that goes on asks next. No value is narrower than 32 bits: with one of eight the compiler packs all of it into one number, and no longer sees through
+// the match, which cost ten instructions an answer.
 pub enum Next {
     // Word i of the six before the last.
     Write(u64),
