@@ -12,10 +12,11 @@ use lib.ListN.{length, getD, set, take, drop}
 use lib.Seq.{getD-drop, take-suc-set, drop-set-lt, drop-cons}
 use Rattle.fields.specs.Outcome.{pick}
 use Rattle.layout.specs.declared.Table.{Table}
+use Rattle.layout.specs.declared.Sorted.{Sorted}
 use Rattle.layout.specs.declared.Placed.{Placed}
 use Rattle.layout.specs.declared.Range.{Range}
-use Rattle.layout.specs.Layout.{noTable, tableOf, tablesFrom, sortInto, based, placeFrom, totalOf, rowsOf, isPow2, firstBad, tableIn, rangesOf, layOut}
-use Rattle.layout.specs.Inner.{All, Small, Modest, placed}
+use Rattle.layout.specs.Layout.{noTable, tableOf, tablesFrom, sortInto, comparisonsOf, based, placeFrom, totalOf, rowsOf, isPow2, firstBad, tableIn, rangesOf, layOut}
+use Rattle.layout.specs.Inner.{All, Small, Modest, sorted, placed}
 
 -- a turn of the loop of `tables`
 pub one-table : (counts entries : List ℕ) (i : ℕ) → i < length counts → i < length entries
@@ -68,12 +69,12 @@ total-placed at [] = refl
 total-placed at (x ∷ xs) = ap (λ (n : ℕ). x .bytes + n) (total-placed (at + x .bytes) xs)
 
 -- the three steps to the tables with their bases, one after the other
-pub placed-rows : (counts entries : List ℕ) {made sorted : List Table} {p : Placed} → made ≡ tablesFrom 0 counts entries → sorted ≡ sortInto [] made → p ≡ placed sorted
-    → (p .rows ≡ rowsOf counts entries) × (p .total ≡ totalOf (rowsOf counts entries))
+pub placed-rows : (counts entries : List ℕ) {made : List Table} {s : Sorted} {p : Placed} → made ≡ tablesFrom 0 counts entries → s ≡ sorted made → p ≡ placed (s .rows) (s .comparisons)
+    → (p .rows ≡ rowsOf counts entries) × (p .total ≡ totalOf (rowsOf counts entries)) × (p .comparisons ≡ comparisonsOf (tablesFrom 0 counts entries))
 placed-rows counts entries a b c =
-    let s = sortInto [] (tablesFrom 0 counts entries) in
-    let e = c ∙ ap placed (b ∙ ap (sortInto []) a) in
-    (ap (λ (x : Placed). x .rows) e, ap (λ (x : Placed). x .total) e ∙ sym (total-placed 0 s))
+    let t = tablesFrom 0 counts entries in
+    let e = c ∙ ap (λ (x : Sorted). placed (x .rows) (x .comparisons)) (b ∙ ap sorted a) in
+    (ap (λ (x : Placed). x .rows) e, ap (λ (x : Placed). x .total) e ∙ sym (total-placed 0 (sortInto [] t)), ap (λ (x : Placed). x .comparisons) e)
 
 -- the bases of small tables, placed from `at` on
 pub modest-from : (at n : ℕ) (xs : List Table) → length xs ≡ n → at + n * 2 ^ 48 ≤ 2 ^ 52 → All Small xs → All Modest (placeFrom at xs)
@@ -103,10 +104,11 @@ unfolding tableIn
 all-find P index [] p a = p
 all-find P index (x ∷ xs) p a = found-by P (eqb (x .index) index) x (tableIn index xs) (a .0) (all-find P index xs p (a .1))
 
--- a layout made of such tables, their bytes and their ranges
-pub laid-out : (counts entries : List ℕ) {rows : List Table} {t : ℕ} {rs : List Range} → rows ≡ rowsOf counts entries → t ≡ totalOf (rowsOf counts entries) → rs ≡ rangesOf rows
-    → record { rows = rows; total = t; ranges = rs } ≡ layOut counts entries
-laid-out counts entries {rows} {t} {rs} a b c =
-    ap (λ (x : List Range). record { rows = rows; total = t; ranges = x }) c
-    ∙ ap (λ (n : ℕ). record { rows = rows; total = n; ranges = rangesOf rows }) b
-    ∙ ap (λ (x : List Table). record { rows = x; total = totalOf (rowsOf counts entries); ranges = rangesOf x }) a
+-- a layout made of such tables, their bytes, their ranges and their comparisons
+pub laid-out : (counts entries : List ℕ) {rows : List Table} {t m : ℕ} {rs : List Range} → rows ≡ rowsOf counts entries → t ≡ totalOf (rowsOf counts entries) → m ≡ comparisonsOf (tablesFrom 0 counts entries)
+    → rs ≡ rangesOf rows → record { rows = rows; total = t; ranges = rs; comparisons = m } ≡ layOut counts entries
+laid-out counts entries {rows} {t} {m} {rs} a b c d =
+    ap (λ (x : List Range). record { rows = rows; total = t; ranges = x; comparisons = m }) d
+    ∙ ap (λ (n : ℕ). record { rows = rows; total = n; ranges = rangesOf rows; comparisons = m }) b
+    ∙ ap (λ (n : ℕ). record { rows = rows; total = totalOf (rowsOf counts entries); ranges = rangesOf rows; comparisons = n }) c
+    ∙ ap (λ (x : List Table). record { rows = x; total = totalOf (rowsOf counts entries); ranges = rangesOf x; comparisons = comparisonsOf (tablesFrom 0 counts entries) }) a
