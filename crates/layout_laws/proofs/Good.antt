@@ -127,17 +127,24 @@ pow-test : (x : ℕ) → x ≤ 2 ^ 63 → Pow x → isPow2 x ≡ true
 pow-test x h p =
     by-order (isPow2 x ≡ true) (p .0) 63 (leb (p .0) 63) refl (λ l. pow-is x (p .0) l (p .1)) (λ l. let f : 2 ^ 63 < x = rw (p .1) (pow-lt l) in absurd (omega arith))
 
+-- an accepted layout is the one defined, past both tests
+pub is-laid : (counts entries : List ℕ) (most : ℕ) (l : Layout) → layoutOf counts entries most ≡ value l
+    → (length entries ≤ firstBad 0 entries) × (totalOf (rowsOf counts entries) ≤ most) × (l ≡ layOut counts entries)
+is-laid counts entries most l e =
+    let bad = firstBad 0 entries in
+    let total = totalOf (rowsOf counts entries) in
+    let fits = pick (ltb most total) (refused 17 (total ∷ [])) (value (layOut counts entries)) in
+    let p = past (ltb bad (length entries)) 16 (bad ∷ []) fits l e in
+    let q = past (ltb most total) 17 (total ∷ []) (value (layOut counts entries)) l (p .1) in
+    (ltb-false bad (length entries) (p .0), ltb-false most total (q .0), sym (same-value (q .1)))
+
 module _ (counts entries : List ℕ) (most : ℕ) (entry : (i : ℕ) → getD entries i 0 ≤ 2 ^ 63) where
   pub accepted : (l : Layout) → layoutOf counts entries most ≡ value l
       → ((i : ℕ) → i < length entries → Pow (getD entries i 0)) × (totalOf (rowsOf counts entries) ≤ most) × (l ≡ layOut counts entries)
   accepted l e =
-      let bad = firstBad 0 entries in
-      let total = totalOf (rowsOf counts entries) in
-      let fits = pick (ltb most total) (refused 17 (total ∷ [])) (value (layOut counts entries)) in
-      let p = past (ltb bad (length entries)) 16 (bad ∷ []) fits l e in
-      let q = past (ltb most total) 17 (total ∷ []) (value (layOut counts entries)) l (p .1) in
-      let n : 0 + length entries ≤ bad = rw (zero-add (length entries)) (ltb-false bad (length entries) (p .0)) in
-      (λ i h. is-pow (getD entries i 0) (entry i) (none-bad 0 entries n i h), ltb-false most total (q .0), sym (same-value (q .1)))
+      let p = is-laid counts entries most l e in
+      let n : 0 + length entries ≤ firstBad 0 entries = rw (zero-add (length entries)) (p .0) in
+      (λ i h. is-pow (getD entries i 0) (entry i) (none-bad 0 entries n i h), p .1, p .2)
 
   pub accepts : ((i : ℕ) → i < length entries → Pow (getD entries i 0)) → totalOf (rowsOf counts entries) ≤ most → layoutOf counts entries most ≡ value (layOut counts entries)
   accepts f h =

@@ -1,4 +1,5 @@
 pub mod Rows
 pub mod Good
+pub mod Comparisons
 pub mod Mapped
 pub mod Profiles

@@ -91,7 +91,7 @@ ordered-append : (xs ys : List Table) → Ordered xs → Ordered ys → All (λ 
 ordered-append [] ys o p a = p
 ordered-append (x ∷ xs) ys o p a = (all-append (Before x) xs ys (o .0) (a .0), ordered-append xs ys (o .1) p (a .1))
 
-all-both : (P Q : Table → Type 0) (xs : List Table) → All P xs → All Q xs → All (λ t. P t × Q t) xs
+pub all-both : (P Q : Table → Type 0) (xs : List Table) → All P xs → All Q xs → All (λ t. P t × Q t) xs
 all-both P Q [] a b = tt
 all-both P Q (x ∷ xs) a b = ((a .0, b .0), all-both P Q xs (a .1) (b .1))
 
