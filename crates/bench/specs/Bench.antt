@@ -1,10 +1,11 @@
--- The bench values of document 01, as one table. The theorem `bench-holds` of proofs/ says that the definitions give each of them.
-use Prim.Native.Nat.{ℕ, _+_, _*_}
+-- The bench values of document 01, and the counts of comparisons of document 02, Req 04, as one table. The theorem `bench-holds` of proofs/ says
+-- that the definitions give each of them.
+use Prim.Native.Nat.{ℕ, _+_, _*_, _^_}
 use mathlib.Core.List.{List, [], _∷_}
 use mathlib.Core.Path.{_≡_}
 use lib.ListN.{length, set, replicate}
 use Rattle.fields.specs.Fields.{putAt}
-use Rattle.fields.specs.Outcome.{Outcome, value, refused}
+use Rattle.fields.specs.Outcome.{Outcome, value, refused, valueOr}
 use Rattle.fields.specs.declared.Order.the-variants.{Big}
 use Rattle.bars.specs.declared.Size.the-variants.{Unknown}
 use Rattle.bars.specs.Bars.{baseAt, candidatesAt}
@@ -17,31 +18,36 @@ use Rattle.reply.specs.declared.DevCap.{DevCap}
 use Rattle.reply.specs.Capability.{capabilityOf}
 use Rattle.layout.specs.declared.Table.{Table}
 use Rattle.layout.specs.declared.Layout.{Layout}
+use Rattle.layout.specs.Layout.{noLayout, layoutOf}
 use Rattle.layout.specs.Counts.{profileOf}
 
 -- a line of the listing: the table's index, entry, count, bytes and base
 abbrev line : (index entry count bytes base : ℕ) → Table
 line i e c b a = record { index = i; entry = e; count = c; bytes = b; base = a }
 
--- what the listing prints: the tables in the order of their bases, and the total
+-- what the listing prints: the tables in the order of their bases, and the total; and the comparisons, which it does not print
 pub record Listing : Type 0 where
   pub rows : List Table
   pub total : ℕ
+  pub comparisons : ℕ
 
 abbrev pub listed : Layout → Listing
-listed l = record { rows = l .rows; total = l .total }
+listed l = record { rows = l .rows; total = l .total; comparisons = l .comparisons }
 
 abbrev pub listOf : Outcome Layout → Outcome Listing
 listOf (value l) = value (listed l)
 listOf (refused n vs) = refused n vs
 
-abbrev pub thenProfile : Outcome DevCap → Outcome Listing
-thenProfile (value c) = listOf (profileOf c)
+abbrev pub thenProfile : Outcome DevCap → Outcome Layout
+thenProfile (value c) = profileOf c
 thenProfile (refused n vs) = refused n vs
 
--- the listing of a capability reply, "BAR size unknown"
+-- the layout of a capability reply, "BAR size unknown", and its listing
+abbrev pub layoutFor : List ℕ → Outcome Layout
+layoutFor s = thenProfile (capabilityOf s Unknown)
+
 abbrev pub listingOf : List ℕ → Outcome Listing
-listingOf s = thenProfile (capabilityOf s Unknown)
+listingOf s = listOf (layoutFor s)
 
 abbrev be16 : List ℕ → (off v : ℕ) → List ℕ
 be16 s off v = putAt Big s off 2 v
@@ -54,9 +60,13 @@ be64 s off v = putAt Big s off 8 v
 abbrev bytesL : List ℕ
 bytesL = set (set (set (replicate 168 0) 0x1f 7) 0x37 1) 0x4b 12
 
+-- entries from an offset on
+abbrev entriesFrom : List ℕ → (off : ℕ) → List ℕ → List ℕ
+entriesFrom s off [] = s
+entriesFrom s off (v ∷ vs) = entriesFrom (be16 s off v) (off + 2) vs
+
 abbrev entriesL : List ℕ
-entriesL =
-    be16 (be16 (be16 (be16 (be16 (be16 (be16 (be16 (be16 (be16 bytesL 0x80 32) 0x82 256) 0x84 32) 0x86 64) 0x88 128) 0x8a 128) 0x8c 128) 0x8e 64) 0x90 8) 0x92 64
+entriesL = entriesFrom bytesL 0x80 (32 ∷ 256 ∷ 32 ∷ 64 ∷ 128 ∷ 128 ∷ 128 ∷ 64 ∷ 8 ∷ 64 ∷ [])
 
 abbrev pub inputL : List ℕ
 inputL = be64 entriesL 0xa0 0x100121000
@@ -79,17 +89,28 @@ listingL =
           ∷ line 9 8 512 0x1000 0x100120000
           ∷ [];
       total = 0x100121000;
+      comparisons = 27;
     }
 
--- a bench value: a reply with what its listing comes to; a range of `size` bytes with its blocks and the number of mailboxes that carry them; BAR dwords
+-- a reply whose exponents are all 0 and whose entries are all 1
+abbrev allOnes : List ℕ
+allOnes = be64 (entriesFrom (set (set (replicate 168 0) 0x37 1) 0x4b 12) 0x80 (replicate 10 1)) 0xa0 (2 ^ 32)
+
+-- the layout of tables of so many pages, by index
+abbrev ofPages : List ℕ → Outcome Layout
+ofPages pages = layoutOf pages (replicate 11 4096) (2 ^ 32)
+
+-- a bench value: a reply with what its listing comes to; a layout with its comparisons; a range of `size` bytes with its blocks and the number of mailboxes that carry them; BAR dwords
 -- and a register with its base and its two candidates
 pub data Case : Type 0 where
   reply : List ℕ → Outcome Listing → Case
+  compared : Outcome Layout → (comparisons : ℕ) → Case
   blocks : Virt → (phys size : ℕ) → List Block → (boxes : ℕ) → Case
   bar : (regs : List ℕ) → (reg base first second : ℕ) → Case
 
 abbrev pub Holds : Case → Type 0
 Holds (reply s o) = listingOf s ≡ o
+Holds (compared o m) = valueOr noLayout o .comparisons ≡ m
 Holds (blocks v p n bs m) = (blocksOf 63 v p n ≡ bs) × (length (mailboxes 256 bs) ≡ m)
 Holds (bar regs reg b i j) = (baseAt regs reg ≡ value b) × (candidatesAt regs reg ≡ value (i, j))
 
@@ -125,4 +146,11 @@ bench =
     ∷ blocks Absent 0 0 [] 0
     -- P10 BARs 0xf0000004, 0, 0xe000000c, 0, register 2: base 0xe0000000, candidates 2 and 1
     ∷ bar (0xf0000004 ∷ 0 ∷ 0xe000000c ∷ 0 ∷ 0 ∷ 0 ∷ []) 2 0xe0000000 2 1
+    -- Req 04: falling bytes; each larger than all before; all equal; equal but for the last, which passes ten; a reply of ones; none beside a refusal
+    ∷ compared (ofPages (1024 ∷ 512 ∷ 256 ∷ 128 ∷ 64 ∷ 32 ∷ 16 ∷ 8 ∷ 4 ∷ 2 ∷ 1 ∷ [])) 10
+    ∷ compared (ofPages (1 ∷ 2 ∷ 4 ∷ 8 ∷ 16 ∷ 32 ∷ 64 ∷ 128 ∷ 256 ∷ 512 ∷ 1024 ∷ [])) 55
+    ∷ compared (ofPages (replicate 11 1)) 10
+    ∷ compared (ofPages (set (replicate 11 1) 10 2)) 19
+    ∷ compared (layoutFor allOnes) 26
+    ∷ compared (layoutFor (be64 entriesL 0xa0 0x100120fff)) 0
     ∷ []

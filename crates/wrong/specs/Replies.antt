@@ -264,6 +264,8 @@ layouts =
     row (layoutNumbers noLayout)
     (45056 ∷ 0 ∷ 0 ∷ 0 ∷ 0 ∷ 0 ∷ 0 ∷ 0 ∷ 0 ∷ 0 ∷ 0 ∷ 0 ∷ 0 ∷ 0 ∷ 0 ∷ 0 ∷ 0 ∷ 0 ∷ 0 ∷ 0 ∷ 0 ∷ 0 ∷ 0 ∷ 0 ∷ 0 ∷ 0 ∷ 0 ∷ 0 ∷ 0 ∷ 0 ∷ 0 ∷ 0 ∷ 0 ∷ 0 ∷ [])
     (0 ∷ 0 ∷ 0 ∷ 0 ∷ 1 ∷ 0 ∷ 0 ∷ 2 ∷ 0 ∷ 0 ∷ 3 ∷ 0 ∷ 0 ∷ 4 ∷ 0 ∷ 0 ∷ 5 ∷ 0 ∷ 0 ∷ 6 ∷ 0 ∷ 0 ∷ 7 ∷ 0 ∷ 0 ∷ 8 ∷ 0 ∷ 0 ∷ 9 ∷ 0 ∷ 0 ∷ 10 ∷ 0 ∷ 0 ∷ []) ∷
+    -- Layout::none, the comparisons: one for each table but the first; L's
+    row (noLayout .comparisons ∷ []) (10 ∷ []) (27 ∷ []) ∷
     -- find: the table at that place; none
     row (tableNumbers (tableIn 0 tables)) (2 ∷ 4096 ∷ 4 ∷ 0x4000 ∷ 0 ∷ []) (0 ∷ 0 ∷ 0 ∷ 0 ∷ 0 ∷ []) ∷
     -- find of no such index: the last table; the first
@@ -310,6 +312,12 @@ layouts =
     row (said (layoutOf counts (set entries 3 24) 0)) (17 ∷ 0xe000 ∷ []) (0 ∷ []) ∷
     -- lay_out, refused, what is held: the total; the tables
     row (take 4 (layoutNumbers (valueOr noLayout (layoutOf counts entries 0xdfff)))) (0xe000 ∷ 0 ∷ 0 ∷ 0 ∷ []) (0 ∷ 2 ∷ 0x4000 ∷ 0 ∷ []) ∷
+    -- lay_out, the comparisons: on after the place is known, or an equal table passes; the one that stops a table is not counted
+    row (toldBy (λ l. l .comparisons ∷ []) (layoutOf counts entries 0xe000)) (0 ∷ 55 ∷ []) (0 ∷ 2 ∷ []) ∷
+    -- lay_out, the comparisons: one where none is left; those of the last table
+    row (toldBy (λ l. l .comparisons ∷ []) (layoutOf counts entries 0xe000)) (0 ∷ 13 ∷ []) (0 ∷ 1 ∷ []) ∷
+    -- lay_out, refused, the comparisons: those made; one for each table but the first
+    row (valueOr noLayout (layoutOf counts entries 0xdfff) .comparisons ∷ []) (11 ∷ []) (10 ∷ []) ∷
     -- base_sqpn (64 reserved): not raised; without the 257
     row (baseSqpn card ∷ []) (321 ∷ []) (64 ∷ []) ∷
     -- base_sqpn (256 reserved): 256 more, or rounded down; not raised
@@ -332,6 +340,8 @@ layouts =
     (1024 ∷ 1024 ∷ 1024 ∷ 1024 ∷ 33 ∷ 132 ∷ 128 ∷ 64 ∷ 67108864 ∷ 264 ∷ 256 ∷ []) (1024 ∷ 16384 ∷ 1024 ∷ 1024 ∷ 33 ∷ 132 ∷ 128 ∷ 64 ∷ 67108864 ∷ 256 ∷ 256 ∷ []) ∷
     -- profile, the total: that of L; refused
     row (toldBy (λ l. l .total ∷ []) (profileOf card)) (0 ∷ 0x100121000 ∷ []) (17 ∷ 0x400015a000 ∷ []) ∷
+    -- profile, the comparisons: L's; each table with all before it
+    row (toldBy (λ l. l .comparisons ∷ []) (profileOf card)) (0 ∷ 27 ∷ []) (0 ∷ 55 ∷ []) ∷
     -- profile, refused (one byte too many): taken; the card's bytes beside it
     row (said (profileOf (devCapOf (putAt Big capReply 0xa0 8 0x4000159fff)))) (0 ∷ []) (17 ∷ 0x4000159fff ∷ []) ∷
     -- profile, refused (an MTT entry of 24): taken; the entry beside it
