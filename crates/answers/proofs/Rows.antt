@@ -32,18 +32,31 @@ unfolding rowsWords
 length-rows [] = refl
 length-rows (t ∷ ts) = omega (arith, length-rows ts)
 
--- the whole answer, by what was judged and the two numbers from the capabilities
-abbrev pub whole : Judged → (sqpn free : ℕ) → List ℕ
-whole j sqpn free =
-    (j .code .number ∷ j .code .beside ∷ j .layout .total ∷ sqpn ∷ free ∷ []) ++ (rowsWords (j .layout .rows) ++ rangesWords (j .layout .ranges))
+pub length-ranges : (rs : List Range) → length (rangesWords rs) ≡ length rs * 2
+unfolding rangesWords
+length-ranges [] = refl
+length-ranges (r ∷ rs) = omega (arith, length-ranges rs)
 
--- its three parts, put one after the other
-pub put-whole : (s : List ℕ) (j : Judged) (sqpn free : ℕ) → length (j .layout .rows) ≡ 11
-    → putWords (putWords (putWords s 0 (j .code .number ∷ j .code .beside ∷ j .layout .total ∷ sqpn ∷ free ∷ [])) 5 (rowsWords (j .layout .rows))) 60 (rangesWords (j .layout .ranges))
+-- the whole answer, by what was judged and the two numbers from the capabilities
+abbrev pub headed : Judged → (sqpn free : ℕ) → List ℕ
+headed j sqpn free = j .code .number ∷ j .code .beside ∷ j .layout .total ∷ sqpn ∷ free ∷ []
+
+abbrev pub whole : Judged → (sqpn free : ℕ) → List ℕ
+whole j sqpn free = headed j sqpn free ++ (rowsWords (j .layout .rows) ++ (rangesWords (j .layout .ranges) ++ (j .layout .comparisons ∷ [])))
+
+-- its four parts, put one after the other
+pub put-whole : (s : List ℕ) (j : Judged) (sqpn free : ℕ) → length (j .layout .rows) ≡ 11 → length (j .layout .ranges) ≡ 14
+    → putWords (putWords (putWords (putWords s 0 (headed j sqpn free)) 5 (rowsWords (j .layout .rows))) 60 (rangesWords (j .layout .ranges))) 88 (j .layout .comparisons ∷ [])
     ≡ putWords s 0 (whole j sqpn free)
-put-whole s j sqpn free n =
-    let head : List ℕ = j .code .number ∷ j .code .beside ∷ j .layout .total ∷ sqpn ∷ free ∷ [] in
+put-whole s j sqpn free n m =
+    let head : List ℕ = headed j sqpn free in
     let rows : List ℕ = rowsWords (j .layout .rows) in
-    let rest : List ℕ = rangesWords (j .layout .ranges) in
+    let ranges : List ℕ = rangesWords (j .layout .ranges) in
+    let last : List ℕ = j .layout .comparisons ∷ [] in
     let at : 5 + length rows ≡ 60 = omega (arith, length-rows (j .layout .rows)) in
-    ap (λ (k : ℕ). putWords (putWords (putWords s 0 head) 5 rows) k rest) (sym at) ∙ put-append (putWords s 0 head) rows rest 5 ∙ put-append s head (rows ++ rest) 0
+    let end : 60 + length ranges ≡ 88 = omega (arith, length-ranges (j .layout .ranges)) in
+    ap (λ (k : ℕ). putWords (putWords (putWords (putWords s 0 head) 5 rows) 60 ranges) k last) (sym end)
+    ∙ put-append (putWords (putWords s 0 head) 5 rows) ranges last 60
+    ∙ ap (λ (k : ℕ). putWords (putWords (putWords s 0 head) 5 rows) k (ranges ++ last)) (sym at)
+    ∙ put-append (putWords s 0 head) rows (ranges ++ last) 5
+    ∙ put-append s head (rows ++ (ranges ++ last)) 0

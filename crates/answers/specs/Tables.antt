@@ -37,10 +37,14 @@ unfoldable pub rangesWords : List Range → List ℕ
 rangesWords [] = []
 rangesWords (r ∷ rs) = rangeWords r ++ rangesWords rs
 
--- the refusal, the total, the first special QP and the first free MTT entry; then the tables and the ranges
+-- the refusal, the total, the first special QP and the first free MTT entry; then the tables, the ranges and the comparisons
 abbrev pub headWords : Outcome DevCap → List ℕ
 headWords o =
     numberOf (layoutFor o) ∷ besideOf (layoutFor o) ∷ valueOr noLayout (layoutFor o) .total ∷ baseSqpn (valueOr noCaps o) ∷ firstFreeMtt (valueOr noCaps o) ∷ []
 
 abbrev pub layoutWords : Outcome DevCap → List ℕ
-layoutWords o = headWords o ++ (rowsWords (valueOr noLayout (layoutFor o) .rows) ++ rangesWords (valueOr noLayout (layoutFor o) .ranges))
+layoutWords o =
+    headWords o
+    ++ (rowsWords (valueOr noLayout (layoutFor o) .rows)
+    ++ (rangesWords (valueOr noLayout (layoutFor o) .ranges)
+    ++ (valueOr noLayout (layoutFor o) .comparisons ∷ [])))

@@ -27,6 +27,8 @@ const ROWS_AT: usize = 5;
 
 const RANGES_AT: usize = 60;
 
+pub const COMPARISONS_AT: usize = 88;
+
 // The tables in the order of their bases, five words each.
 pub fn put_rows(out: &mut [u8], rows: [Table; 11])
     ensures { λ _. ⌜ now (out .exit) ≡ putWords (now (out .entry)) 5 (rowsWords rows) ⌝ }
@@ -43,6 +45,7 @@ pub fn put_rows(out: &mut [u8], rows: [Table; 11])
 // The mapped ranges in their order, two words each.
 pub fn put_ranges(out: &mut [u8], ranges: [Range; 14])
     ensures { λ _. ⌜ now (out .exit) ≡ putWords (now (out .entry)) 60 (rangesWords ranges) ⌝ }
+    ensures { λ _. ⌜ length ranges ≡ 14 ⌝ }
 {
     let mut i: usize = 0;
     while i < 14 {

@@ -24,14 +24,14 @@ pub extern "C" fn leaf_log2(x: u64) -> u32
     layout::log2(x)
 }
 
-const WORDS: usize = 88;
+const WORDS: usize = 89;
 
 // The layout for a capability reply, with the UAR BAR's size known or not: the refusal's number and value, the total, the first special QP, the first
-// free MTT entry, the tables and the ranges.
+// free MTT entry, the tables, the ranges and the comparisons.
 #[no_mangle]
 pub extern "C" fn leaf_layout(reply: &[u8], known: bool, bar: u64, out: &mut [u8]) -> u32
-    ensures { λ r. ⌜ r ≡ said 88 (now (out .entry)) ⌝ }
-    ensures { λ _. ⌜ now (out .exit) ≡ answer 88 (now (out .entry)) (layoutWords (capabilityOf (now (reply .entry)) (sizeFrom known bar))) ⌝ }
+    ensures { λ r. ⌜ r ≡ said 89 (now (out .entry)) ⌝ }
+    ensures { λ _. ⌜ now (out .exit) ≡ answer 89 (now (out .entry)) (layoutWords (capabilityOf (now (reply .entry)) (sizeFrom known bar))) ⌝ }
 {
     if out.len() < WORDS * 8 {
         return words::SHORT;
@@ -55,5 +55,10 @@ pub extern "C" fn leaf_layout(reply: &[u8], known: bool, bar: u64, out: &mut [u8
     );
     answers::tables::put_rows(out, rows);
     answers::tables::put_ranges(out, ranges);
+    words::put(
+        out,
+        answers::tables::COMPARISONS_AT,
+        &[l.comparisons as u64],
+    );
     0
 }

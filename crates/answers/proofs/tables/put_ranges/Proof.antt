@@ -60,7 +60,7 @@ returns : tie.Need-returns Inv-loop μ-loop
 unfolding putWords rangesWords
 returns c = let p = c .before .before .before .args in let l = c .before .loop in let n : length (p .t2) ≡ 14 = search needs in
     let e : drop (l .i) (p .t2) ≡ [] = drop-of-length-le (p .t2) {i = l .i} (omega arith) in
-    sym (ap (λ (rs : List Range). putWords (l .out) (60 + l .i * 2) (rangesWords rs)) e) ∙ l .inv .2
+    (sym (ap (λ (rs : List Range). putWords (l .out) (60 + l .i * 2) (rangesWords rs)) e) ∙ l .inv .2, n)
 
 pub put-ranges-spec : {M : Type 1} → statement M
 put-ranges-spec =
