@@ -36,7 +36,7 @@ resultKnown x w = given 5 w (outcomeWords (outcomeOf x))
 
 -- "the opening's result": 20 unless the session is open, and no call runs
 unfoldable pub setupKnown : Session → List ℕ → Read
-setupKnown x w = pick (isIdle x) (pick (ltb (length w) 1064) (reads 21 w) (reads 0 (setupIn w (x .info)))) (reads 20 w)
+setupKnown x w = pick (isIdle x) (pick (ltb (length w) 1072) (reads 21 w) (reads 0 (setupIn w (x .info)))) (reads 20 w)
 
 -- the books as they stand in the bytes: all but the arrays, then the ranges and the lent buffers
 abbrev pub booksIn : (state out : List ℕ) → List ℕ

@@ -95,7 +95,10 @@ putPorts s n = putWords (putWords s 40 (portWords (n .port1))) 57 (portWords (n 
 
 unfoldable pub putLayout : List ℕ → Info → List ℕ
 putLayout s n =
-    putWords (putWords s 74 (portsOf n ∷ layoutIn n .total ∷ baseSqpn (n .cap) ∷ firstFreeMtt (n .cap) ∷ [])) 78 (flat tableWords (layoutIn n .rows))
+    putWords
+    (putWords (putWords s 74 (portsOf n ∷ layoutIn n .total ∷ baseSqpn (n .cap) ∷ firstFreeMtt (n .cap) ∷ [])) 78 (flat tableWords (layoutIn n .rows)))
+    133
+    (layoutIn n .comparisons ∷ [])
 
 unfoldable pub setupIn : List ℕ → Info → List ℕ
-setupIn s n = pick (ltb (length s) 1064) s (putLayout (putPorts (putSaid s n) n) n)
+setupIn s n = pick (ltb (length s) 1072) s (putLayout (putPorts (putSaid s n) n) n)

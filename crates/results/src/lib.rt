@@ -14,7 +14,7 @@ ghost use Rattle.words.specs.Words.{putWords, flat};
 ghost use Rattle.results.specs.Results.{valuesOf, endWord, refusedWords, gaveWords, outcomeWords, merged, portsOf, tableWords, putSaid, putPorts, putLayout, setupIn};
 
 // The bytes of what an opening has found out.
-pub const SETUP: usize = 1064;
+pub const SETUP: usize = 1072;
 
 // The values beside a refusal, in their order.
 fn values(why: Refusal) -> [u64; 2]
@@ -125,7 +125,7 @@ fn put_table(out: &mut [u8], k: usize, t: Table)
 
 // The eleven tables in the order of their bases.
 fn put_tables(out: &mut [u8], rows: [Table; 11])
-    requires { ⌜ 1064 ≤ length (now out) ⌝ }
+    requires { ⌜ 1072 ≤ length (now out) ⌝ }
     ensures { λ _. ⌜ now (out .exit) ≡ putWords (now (out .entry)) 78 (flat tableWords rows) ⌝ }
 {
     let mut i: usize = 0;
@@ -137,7 +137,7 @@ fn put_tables(out: &mut [u8], rows: [Table; 11])
 
 // What the card and the host have said.
 fn put_said(out: &mut [u8], n: Info)
-    requires { ⌜ 1064 ≤ length (now out) ⌝ }
+    requires { ⌜ 1072 ≤ length (now out) ⌝ }
     ensures { λ _. ⌜ now (out .exit) ≡ putSaid (now (out .entry)) n ⌝ }
 {
     let cap = n.cap;
@@ -149,7 +149,7 @@ fn put_said(out: &mut [u8], n: Info)
 }
 
 fn put_ports(out: &mut [u8], n: Info)
-    requires { ⌜ 1064 ≤ length (now out) ⌝ }
+    requires { ⌜ 1072 ≤ length (now out) ⌝ }
     ensures { λ _. ⌜ now (out .exit) ≡ putPorts (now (out .entry)) n ⌝ }
 {
     let port1 = n.port1;
@@ -162,7 +162,7 @@ fn put_ports(out: &mut [u8], n: Info)
 
 // What was laid out.
 fn put_layout(out: &mut [u8], n: Info)
-    requires { ⌜ 1064 ≤ length (now out) ⌝ }
+    requires { ⌜ 1072 ≤ length (now out) ⌝ }
     ensures { λ _. ⌜ now (out .exit) ≡ putLayout (now (out .entry)) n ⌝ }
 {
     let cap = n.cap;
@@ -177,9 +177,10 @@ fn put_layout(out: &mut [u8], n: Info)
     ];
     words::store(out, 74, &w);
     put_tables(out, rows);
+    words::store(out, 133, &[layout.comparisons as u64]);
 }
 
-// What an opening has found out, as 133 words; nothing is written where they pass the end.
+// What an opening has found out, as 134 words; nothing is written where they pass the end.
 pub fn put_setup(out: &mut [u8], n: Info)
     ensures { λ _. ⌜ now (out .exit) ≡ setupIn (now (out .entry)) n ⌝ }
 {

@@ -72,6 +72,7 @@ fn setup(s: &[u8]) {
     rows(b"port", s, 40, ports_end(item::word(s, 74)), 17);
     row(b"layout", s, 74, 78);
     rows(b"table", s, 78, 133, 5);
+    row(b"compared", s, 133, 134);
 }
 
 // What an open session holds.
@@ -98,7 +99,7 @@ fn opened(call: u8, result: u64, found: &[u8], held: &[u8], records: u64) {
 
 fn gave(call: u8, records: u64, state: &[u8]) {
     let mut result = [0u8; 40];
-    let mut found = [0u8; 1064];
+    let mut found = [0u8; 1072];
     let mut held = [0u8; 2240];
     readers::result_bytes(state, &mut result);
     readers::setup_bytes(state, &mut found);
