@@ -195,7 +195,7 @@ uint32_t hca_question(const uint8_t *state, size_t state_bytes, uint8_t *out, si
 uint32_t hca_result(const uint8_t *state, size_t state_bytes, uint8_t *out, size_t out_bytes);
 
 /*
- * What the opening has found out, 133 words; HCA_WRONG unless the session is open and no call is running.
+ * What the opening has found out, 134 words; HCA_WRONG unless the session is open and no call is running.
  *   0   the UAR BAR: its index, 1 if its length is unknown, the length, how it was chosen (0 its base matches, 1 found by a scan, 2 the only answer, 3 no match, 4 no answer);
  *       reserved EQs, EQs and reserved UARs by QUERY_FUNC, or the capabilities' own where it was not sent; 1 at revision 3
  *   8   the capabilities, with these three numbers in their places: reserved QPs, SRQs, CQs, EQs, EQs, reserved MTTs, MPTs, UARs, PDs, system EQs, ports, logs of QP entries,
@@ -204,9 +204,10 @@ uint32_t hca_result(const uint8_t *state, size_t state_bytes, uint8_t *out, size
  *   57  port 2; a port that was not asked about has 0 everywhere
  *   74  how many ports were asked about, the bytes of all tables, the first special QP, the first free MTT
  *   78  the tables in the order of their bases: index, entry, count, bytes, base
+ *   133 how many comparisons of two tables put them in that order, 10 to 55
  * The indices of tables: 0 QPC, 1 RDMARC, 2 ALTC, 3 AUXC, 4 SRQC, 5 CQC, 6 EQC, 7 dMPT, 8 cMPT, 9 MTT, 10 MCG.
  */
-#define HCA_SETUP 1064
+#define HCA_SETUP 1072
 uint32_t hca_setup(const uint8_t *state, size_t state_bytes, uint8_t *out, size_t out_bytes);
 
 /*

@@ -29,7 +29,7 @@ pub const QUESTION: usize = 32;
 /// What `hca_result` writes.
 pub const RESULT: usize = 40;
 /// What `hca_setup` writes.
-pub const SETUP: usize = 1064;
+pub const SETUP: usize = 1072;
 /// What `hca_books` writes.
 pub const BOOKS: usize = 2240;
 

@@ -151,6 +151,8 @@ pub struct Setup {
     pub first_free_mtt: u64,
     /// The tables in the order of their bases.
     pub tables: [Table; 11],
+    /// How many comparisons of two tables put them in that order.
+    pub comparisons: u32,
 }
 
 impl Setup {
@@ -177,6 +179,7 @@ impl Setup {
             base_sqpn: w.at(76),
             first_free_mtt: w.at(77),
             tables,
+            comparisons: w.at(133).try_into().ok()?,
         })
     }
 }

@@ -109,6 +109,7 @@ pub fn opened(out: &mut impl Write, s: &Setup, b: &Books) -> io::Result<()> {
         writeln!(out, "  {} {} {} {:x} {:x}", words::table(t.index), t.entry, t.count, t.bytes, t.base)?;
     }
     writeln!(out, "  total {:x}", s.total)?;
+    writeln!(out, "  put in order by {} comparisons", s.comparisons)?;
     writeln!(out, "\nmapped: table, card address, pages, device address, handle")?;
     b.ranges().iter().try_for_each(|r| range(out, s, r))
 }

@@ -29,7 +29,7 @@ fn a_good_session() {
         "result: open\n",
         "UAR BAR: index 2, 8 MiB",
         "  cMPT 64 67108864 100000000 0\n",
-        "  total 100121000\n",
+        "  total 100121000\n  put in order by 27 comparisons\n",
         "  QPC        100080000      64          40023000  h12\n",
         "   41  UNMAP_FA                 0         3  0x00 good\n",
         "closed: clean",
