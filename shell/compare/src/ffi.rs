@@ -294,7 +294,7 @@ pub fn log2(x: u64) -> u32 {
     unsafe { c::leaf_log2(x) }
 }
 
-pub fn layout(s: &[u8], bar: Option<u64>) -> [u64; 88] {
+pub fn layout(s: &[u8], bar: Option<u64>) -> [u64; 89] {
     let size = bar.unwrap_or(0);
     words(|out| unsafe { c::leaf_layout(s.as_ptr(), s.len(), bar.is_some(), size, out.as_mut_ptr(), out.len()) })
 }

@@ -3,7 +3,8 @@
 //! A case is a list of words and some bytes; a leaf says how to make cases, and what the Rust and the proved function
 //! give for one. `run` has the comparison, `stored` the sample that the program `replay` reads. `machines` compares tasks,
 //! `sessions` openings and closes, `calls` lists of all calls; `arbitrary` calls the functions of include/hca.h with anything
-//! at all. `program` has what the programs share.
+//! at all. `order` counts the comparisons that put tables in order, which the Rust does not tell. `program` has what the
+//! programs share.
 
 pub mod arbitrary;
 pub mod bars;
@@ -14,6 +15,7 @@ pub mod fields;
 pub mod machines;
 pub mod memory;
 pub mod openings;
+pub mod order;
 pub mod program;
 pub mod replies;
 pub mod run;

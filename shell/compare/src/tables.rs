@@ -6,7 +6,7 @@ use world::results::{Layout, Refusal};
 
 use crate::ffi::{self, Answer};
 use crate::replies::{bar, bar_words, capability_reply, code, refusal};
-use crate::{openings, Input, Leaf};
+use crate::{openings, order, Input, Leaf};
 
 pub const LEAVES: &[Leaf] = &[
     Leaf { name: "layout", input: reply, rust: layout, proved: proved_layout },
@@ -29,8 +29,9 @@ pub const LEAVES: &[Leaf] = &[
 pub const MORE: &[Leaf] =
     &[Leaf { name: "tables", input: reply, rust: tables, proved: |i| without_ranges(proved_layout(i)) }];
 
-/// Words of an answer: the refusal, total, base special QPN, first free MTT, eleven tables; then fourteen ranges.
-const WORDS: usize = 88;
+/// Words of an answer: the refusal, total, base special QPN, first free MTT, eleven tables; then fourteen ranges, and the
+/// comparisons.
+const WORDS: usize = 89;
 const TABLES_END: usize = 60;
 const MAX_ICM: usize = 0xa0;
 /// A reply to QUERY_FUNC, which the tables do not depend on.
@@ -89,6 +90,7 @@ fn layout(i: &Input) -> Option<Answer> {
     let shown = outcome.expect("an opening");
     let mut words = layout_words(&shown.opened.layout);
     words.extend(shown.ranges.into_iter().flat_map(|(virt, bytes)| [virt, bytes]));
+    words.push(order::of_layout(&shown.opened.layout));
     Some(Answer { words, bytes: Vec::new() })
 }
 
@@ -105,12 +107,18 @@ fn tables(i: &Input) -> Option<Answer> {
     let outcome = leaves::profile(&i.bytes, bar(i));
     Some(match refusal(&outcome) {
         Some(r) => without_ranges(refused(r)),
-        None => Answer { words: layout_words(&outcome.expect("a layout")), bytes: Vec::new() },
+        None => {
+            let layout = outcome.expect("a layout");
+            let words = [layout_words(&layout), vec![order::of_layout(&layout)]].concat();
+            Answer { words, bytes: Vec::new() }
+        }
     })
 }
 
 fn without_ranges(mut layout: Answer) -> Answer {
+    let comparisons = layout.words.pop();
     layout.words.truncate(TABLES_END);
+    layout.words.extend(comparisons);
     layout
 }
 

@@ -35,8 +35,8 @@ fn what_stands_beside_a_refusal_is_0() {
 #[test]
 fn an_answer_slice_too_short_is_21_and_left_as_it_was() {
     let l = input_l();
-    let mut out = [0xa5; 88 * 8];
-    for n in 0..88 * 8 {
+    let mut out = [0xa5; 89 * 8];
+    for n in 0..89 * 8 {
         assert_eq!(ffi::layout_in(&l, &mut out[..n]), SHORT);
         assert!(out.iter().all(|b| *b == 0xa5), "a slice of {n} bytes was written");
     }

@@ -197,7 +197,7 @@ impl Replay {
     }
 
     fn opened(&mut self) {
-        let s = self.read(Reader::Setup, 133);
+        let s = self.read(Reader::Setup, 134);
         let asked = s[74] as usize;
         self.row("uar", &s[..3]);
         self.row("func", &s[4..8]);
@@ -206,6 +206,7 @@ impl Replay {
         (0..asked).for_each(|p| self.row("port", &s[40 + 17 * p..57 + 17 * p]));
         self.row("layout", &s[74..78]);
         (0..11).for_each(|t| self.row("table", &s[78 + 5 * t..83 + 5 * t]));
+        self.row("compared", &s[133..]);
     }
 
     fn books(&mut self) {

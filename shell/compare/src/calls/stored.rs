@@ -31,9 +31,9 @@
 //! list                  a list begins
 //! call K                before the questions of each call: its kind
 //! gave R A B C D        behind them: the words of hca_result
-//! uar .. table          behind a good opening, what it has found out, as the words of hca_setup: 0 to 2 of `uar`, 4 to 7
+//! uar .. compared       behind a good opening, what it has found out, as the words of hca_setup: 0 to 2 of `uar`, 4 to 7
 //!                       of `func`, 8 to 20 of `caps`, 22 to 39 of `flags`, 17 of each port that was asked about, 74 to 77
-//!                       of `layout`, and five of each `table` in the order of their bases
+//!                       of `layout`, five of each `table` in the order of their bases, and 133 of `compared`
 //! books, broken         where the session is open, words 0 to 4 and 6 to 10 of hca_books
 //! lent H A P            likewise each lent buffer: its three words
 //! undo N                likewise how many records are on the list
@@ -343,7 +343,8 @@ fn tables(o: &Opened) -> String {
         row("table", &[i as u64, t.entry, t.count, t.bytes, t.base])
     };
     let layout = row("layout", &[o.ports.len() as u64, l.total, l.base_sqpn, l.first_free_mtt]);
-    layout + &order.into_iter().map(table).collect::<String>()
+    let compared = row("compared", &[crate::order::of_layout(l)]);
+    layout + &order.into_iter().map(table).collect::<String>() + &compared
 }
 
 fn books(s: &State) -> String {

@@ -4,6 +4,8 @@ use session::{Books, Outcome, Setup, UndoList};
 use world::bus::Handle;
 use world::results::{Buffer, Closing, Layout, Opened, Refusal, State, Table, Undo};
 
+use crate::order;
+
 pub fn closing(c: session::Closing) -> Closing {
     match c {
         session::Closing::Clean => Closing::Clean,
@@ -40,7 +42,9 @@ fn layout(s: &Setup) -> Layout {
     for t in &s.tables {
         tables[usize::from(t.index)] = Table { entry: t.entry, count: t.count, bytes: t.bytes, base: t.base };
     }
-    Layout { tables, total: s.total, base_sqpn: s.base_sqpn, first_free_mtt: s.first_free_mtt }
+    let layout = Layout { tables, total: s.total, base_sqpn: s.base_sqpn, first_free_mtt: s.first_free_mtt };
+    assert_eq!(u64::from(s.comparisons), order::of_layout(&layout), "the comparisons that put the tables in order");
+    layout
 }
 
 pub fn opened(s: &Setup) -> Opened {
