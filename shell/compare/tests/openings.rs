@@ -29,7 +29,7 @@ fn openings_with_large_tables() {
             continue;
         }
         let words = ffi::layout(&reply, bar);
-        let proved: Vec<(u64, u64)> = words[60..].chunks(2).map(|w| (w[0], w[1])).collect();
+        let proved: Vec<(u64, u64)> = words[60..88].chunks(2).map(|w| (w[0], w[1])).collect();
         assert_eq!(shown.ranges, proved, "{}", shown.opened.layout);
         let mut inbox = vec![0xa5; 4096];
         assert_eq!(ffi::init_hca(&reply, bar, &mut inbox), 0);
