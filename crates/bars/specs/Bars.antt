@@ -15,6 +15,8 @@ use Rattle.bars.specs.declared.Indices.the-variants as i
 use Rattle.bars.specs.declared.BarRange.{BarRange}
 use Rattle.bars.specs.declared.BarRange.the-variants as b
 
+-- Public document: PCI Local Bus, base address registers (what the low bits say; the two dwords of
+-- a 64-bit BAR). It was not at hand; bits and places are those of Linux's pci_regs.h.
 -- "A BAR dword with low three bits 4 is 64-bit."
 abbrev pub is64 : ℕ → Bool
 is64 dword = eqb (dword % 8) 4

@@ -1,6 +1,9 @@
 -- Which index PCI I/O has for a BAR, as a function of what it would say about each: which indices are asked, in order, and which is picked.
 -- Document 01: "`choose` asks both (once if equal); if the base is not 0, a matching base wins, then the other indices 0 to 5 in rising order; else
 -- the single answer, else the first, else the first candidate with no size."
+-- Public document: UEFI, PCI I/O Protocol, which knows a BAR by an index from 0 to 5. It was not at
+-- hand: that the index may be that of the register or count the BARs is the Rust's reading, and
+-- both are asked.
 use Prim.Native.Nat.{ℕ, zero, suc, _-_}
 use mathlib.Core.Bool.{Bool, true, false, _&&_, _||_, not}
 use mathlib.Core.List.{List, [], _∷_, _++_}

@@ -1,5 +1,7 @@
 -- A buffer is made and freed, as scripts. Document 01: "5 allocate or map fails", "18 device address no page multiple, its end above 2^64, or bytes above
 -- 2^64 − 4,096", "A buffer mapped at an address refused with 18 is unmapped and freed."
+-- Public document: UEFI, PCI I/O Protocol: AllocateBuffer, Map for a common buffer, Unmap,
+-- FreeBuffer. It was not at hand.
 use Prim.Native.Nat.{ℕ, _*_}
 use mathlib.Core.List.{[]}
 use lib.Dec.{eqb}

@@ -1,4 +1,6 @@
 -- One command, as a script: document 01, hcr. Register values are the registers' own; `inbox` is what the fences copy to the device.
+-- Public document: ConnectX-3 Programmer's Reference Manual, how a command is posted and its end
+-- seen. It was not at hand.
 use Prim.Native.Nat.{ℕ, zero, suc, _+_, _*_, _/_, _%_, _^_}
 use mathlib.Core.Bool.{Bool, not}
 use mathlib.Core.List.{List, [], _∷_}

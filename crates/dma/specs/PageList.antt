@@ -1,5 +1,7 @@
 -- The page list of one mailbox. Document 01: "A mailbox carries at most 256 blocks, 16 bytes each: card address, then host address with exponent
 -- minus 12 in its low bits."
+-- Public document: ConnectX-3 Programmer's Reference Manual, the mailbox of MAP_FA, MAP_ICM_AUX and
+-- MAP_ICM. It was not at hand.
 use Prim.Native.Nat.{ℕ, zero, suc, _+_, _-_, _*_, _/_, _%_, _^_, _≤_, _<_, min}
 use mathlib.Core.Path.{_≡_}
 use mathlib.Core.List.{List, [], _∷_}

@@ -1,5 +1,7 @@
 -- The command register, as words. Document 01, hcr: "Status dword at 0x80680+0x18: GO bit 23, T bit 21, status top byte. Pending: GO set, or T equal to the
 -- toggle. .. Writes at 0x00, 0x04, 0x08, 0x0c, 0x10, 0x14 (0xffff0000), then 0x18".
+-- Public document: ConnectX-3 Programmer's Reference Manual, the command register and the opcodes.
+-- It was not at hand: places, bits and numbers are document 01's and the Rust's.
 use Prim.Native.Nat.{ℕ, zero, suc, _+_, _*_, _/_, _%_, _^_}
 use mathlib.Core.Bool.{Bool, true, false, _||_, not}
 use mathlib.Core.List.{List, [], _∷_}

@@ -1,4 +1,6 @@
 -- The mailboxes of INIT_HCA and MOD_STAT_CFG, each as a table of fields (offset, width, value) over zeros: "unset bytes are 0".
+-- Public document: ConnectX-3 Programmer's Reference Manual, these two commands. It was not at
+-- hand: bases and logs are document 01's, the other bytes the Rust's.
 use Prim.Native.Nat.{ℕ, _+_, _/_, _%_}
 use mathlib.Core.Bool.{Bool, _&&_, _||_}
 use mathlib.Core.List.{List, [], _∷_}

@@ -26,7 +26,8 @@ use Rattle.pci.specs.declared.ListReply.{ListReply}
 use Rattle.pci.specs.declared.ListReply.the-variants as l
 
 -- "Kinds: config read or write (16, 32 bits), register read or write (BAR, offset), attribute call, BAR resource, stall, allocate (zeroed), map, unmap, free,
--- fence"
+-- fence". Public document: UEFI, PCI I/O Protocol, whose calls these are, but for stall (boot
+-- services) and fence. It was not at hand; docs/SHELL.md says which call each is.
 pub data Ask : Type 0 where
   configRead16 : (offset : ℕ) → Ask
   configRead32 : (offset : ℕ) → Ask

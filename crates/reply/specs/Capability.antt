@@ -1,4 +1,7 @@
 -- The capability reply: the fields that the Rust's `query_dev_cap` reads, at their offsets, and the tests on it, 12 to 15, in their order.
+-- Public document: ConnectX-3 Programmer's Reference Manual, QUERY_DEV_CAP. It was not at hand: the
+-- offsets of the ten entry sizes, of input L and of the tests are document 01's, the others the
+-- Rust's.
 use Prim.Native.Nat.{ℕ, _+_, _*_, _/_, _%_, _^_, _≤_, _<_, max}
 use mathlib.Core.Bool.{Bool, false, _||_, not}
 use mathlib.Core.Path.{_≡_}

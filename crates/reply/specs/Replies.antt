@@ -1,5 +1,7 @@
 -- The replies to QUERY_FW, QUERY_PORT and QUERY_FUNC: the fields that the Rust's `query_fw`, `port_info` and `bring_up` read, at their offsets. A reply too
 -- short for its last field is 21.
+-- Public document: ConnectX-3 Programmer's Reference Manual, these three commands. It was not at
+-- hand: the offsets are the Rust's.
 use Prim.Native.Nat.{ℕ, _+_, _*_, _/_, _%_}
 use mathlib.Core.Bool.{Bool, false, _||_, not}
 use mathlib.Core.List.{List, [], _∷_}

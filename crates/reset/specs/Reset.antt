@@ -1,4 +1,9 @@
 -- The reset, as a script. Document 01, fw: "Reset: at most 10,001 semaphore and 2,000 vendor reads", and the rest as the Rust's `reset` has it.
+-- Public documents: PCI Local Bus, the header of 16 dwords with the command register at 0x04, and
+-- the capability list from 0x34 on; in it, by PCI Express, the capability 0x10 with two control
+-- words. Neither was at hand; the numbers are those of Linux's pci_regs.h. ConnectX-3 Programmer's
+-- Reference Manual, semaphore and reset register: not at hand, the Rust's.
+-- Where PCI Local Bus says otherwise than the Rust: docs/DIFFERENCES.md.
 use Prim.Native.Nat.{ℕ, zero, suc, _+_, _-_, _*_, _/_, _%_}
 use mathlib.Core.Bool.{Bool, false, not}
 use mathlib.Core.List.{List, []}

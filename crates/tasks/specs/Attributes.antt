@@ -1,4 +1,7 @@
 -- Attributes, as a script and as steps. Document 01: "1 attributes not read or enabled"; the Rust's `open`: get, supported (a failure counts as 0), enable.
+-- Public document: UEFI, PCI I/O Protocol, Attributes(): its operations, and the bits of memory,
+-- bus master (0x600) and dual address cycle (0x8000). It was not at hand: the numbers are the
+-- Rust's.
 use Prim.Native.Nat.{ℕ}
 use mathlib.Core.List.{List, []}
 use Rattle.fields.specs.Outcome.{Outcome, value, refused, pick}

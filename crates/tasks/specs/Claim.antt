@@ -27,7 +27,9 @@ abbrev pub claimed : Claimed → Outcome (Unit {0})
 claimed r.Good = value tt
 claimed r.Refused = refused 2 []
 
--- the command word with bit 10 set
+-- the command word with bit 10 set. Public document: PCI Local Bus, command register (INTx
+-- disable). It was not at hand; the bit is that of Linux's pci_regs.h. The owner register is the
+-- manual's, which was not at hand
 abbrev pub withoutIntx : ℕ → ℕ
 withoutIntx v = pick (bit 10 v) v (v + 0x400)
 

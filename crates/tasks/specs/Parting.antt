@@ -37,7 +37,9 @@ releasing = ask (write 0 0x8069c 0) onDisown
 abbrev pub restoring : (before : ℕ) → Script (Unit {0})
 restoring v = ask (attributes 1 v) (λ x. ret tt)
 
--- The tail of quiesce: the owner is written 0; the command word, if it can be read, is written with bit 2 cleared
+-- The tail of quiesce: the owner is written 0; the command word, if it can be read, is written with
+-- bit 2 cleared. Public document: PCI Local Bus, command register (bus master). It was not at hand;
+-- the bit is that of Linux's pci_regs.h
 abbrev pub withoutMaster : ℕ → ℕ
 withoutMaster v = pick (bit 2 v) (v - 4) v
 

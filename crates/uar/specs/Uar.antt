@@ -67,6 +67,8 @@ abbrev pub orRefused : (ℕ → Script Found) → Bus ℕ → Script Found
 orRefused k (good v) = k v
 orRefused k failed = ret f.Refused
 
+-- Public document: PCI Local Bus, the six base address registers. It was not at hand; their places
+-- are those of Linux's pci_regs.h.
 -- n dwords are left to read, 0x10 to 0x24 in order; the first failure is 4. Then the choice for register 2: "the register number, and the count of BARs before it"
 unfoldable pub reading : (n : ℕ) → List ℕ → Script Found
 reading zero dwords = choosing (baseOf dwords 2) 2 (candidate (countOf dwords 2) b.NoAnswer)
