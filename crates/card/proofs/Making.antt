@@ -1,5 +1,5 @@
 -- A buffer is made: allocated and mapped, or given back at once.
-use Prim.Native.Nat.{ℕ, _+_, _*_, _%_, _^_, _≤_}
+use Prim.Native.Nat.{ℕ, _+_, _-_, _*_, _%_, _^_, _≤_}
 use mathlib.Core.Bool.{Bool, true, false, _&&_}
 use mathlib.Core.List.{List, [], _∷_}
 use mathlib.Core.Logic.{inl, inr}
@@ -170,8 +170,8 @@ module _ (i : List ℕ) (base : ℕ → Option Hold) (bs : List Buffer) (I : Car
           (λ e. (
             booked h n s (v .host) held1 new (eqb-true (s .bytes) (n * 4096) e),
             j1,
-            let l = and-left (eqb (s .address % 4096) 0) (leb (s .address + n * 4096) (2 ^ 64)) q in
-                let r = and-right (eqb (s .address % 4096) 0) (leb (s .address + n * 4096) (2 ^ 64)) q in
+            let l = and-left (eqb (s .address % 4096) 0) (endsWithin (s .address) (n * 4096)) q in
+                let r = and-right (leb (n * 4096) (2 ^ 64 - 4096)) (leb (s .address + n * 4096) (2 ^ 64)) (and-right (eqb (s .address % 4096) 0) (endsWithin (s .address) (n * 4096)) q) in
                 record { pages = refl; aligned = eqb-true (s .address % 4096) 0 l; fits = leb-true (s .address + n * 4096) (2 ^ 64) r },
             boxed (eqb-true (s .bytes) (n * 4096) e),
           ))

@@ -217,7 +217,7 @@ module _ (n a pages : ℕ) (some-page : 1 ≤ pages) (few : pages < 2 ^ 52) (fit
   unused d y z = let q = r .pages d (given-use d z) in let s = y .0 in let t : ⊥ = omega (arith, q, s) in t
 
   accepted : (isPage (a * 4096) && endsWithin (a * 4096) (pages * 4096)) ≡ true
-  accepted = and-true _ _ (eq-eqb (a * 4096 % 4096) 0 (omega arith)) (le-leb (a * 4096 + pages * 4096) (2 ^ 64) (omega (arith, fits)))
+  accepted = and-true _ _ (eq-eqb (a * 4096 % 4096) 0 (omega arith)) (and-true _ _ (le-leb (pages * 4096) (2 ^ 64 - 4096) (omega (arith, few))) (le-leb (a * 4096 + pages * 4096) (2 ^ 64) (omega (arith, fits))))
 
   pub can-allocating : Can w (allocating pages) (Grew pages n a w)
   can-allocating = (

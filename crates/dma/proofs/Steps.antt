@@ -8,6 +8,7 @@ use mathlib.Core.Logic.{_⊎_, ⊎-elim}
 use native.Mathlib.Omega.{arith}
 use borrow.Author.Tests.{leb-true}
 use lib.ListN.{length, take, drop, take-append-drop, length-drop}
+use lib.Dec.{leb}
 use lib.Pow.{pow-pos}
 use Rattle.dma.specs.Buffers.{isPage, endsWithin}
 use Rattle.dma.specs.Blocks.{virtOf, onwardOf, wrapped, blockAt, blocksFrom, blocksOf, blockOf, restOf, afterOf}
@@ -127,14 +128,17 @@ module _ (largest : ℕ) where
       (λ n c w h r _. subst Within (sym (behind-suc largest c n (λ z. omega arith))) (r (rest-within c w h)))
       n c w w
 
+ends : (at bytes : ℕ) → endsWithin at bytes ≡ true → at + bytes ≤ 2 ^ 64
+ends at bytes e = leb-true (at + bytes) (2 ^ 64) (and-right (leb bytes (2 ^ 64 - 4096)) (leb (at + bytes) (2 ^ 64)) e)
+
 -- A range that `blocks` accepts ends at 2^64 or below, in both addresses.
 pub start-within : (virt : Virt) (phys size : ℕ) → (isPage phys && (endsWithin phys size && endsWithin (virtOf virt) size)) ≡ true
     → Within (record { virt = virt; phys = phys; left = size })
 start-within virt phys size e =
     let f = and-right (isPage phys) (endsWithin phys size && endsWithin (virtOf virt) size) e in
     record {
-      host = leb-true (phys + size) (2 ^ 64) (and-left (endsWithin phys size) (endsWithin (virtOf virt) size) f);
-      card = leb-true (virtOf virt + size) (2 ^ 64) (and-right (endsWithin phys size) (endsWithin (virtOf virt) size) f);
+      host = ends phys size (and-left (endsWithin phys size) (endsWithin (virtOf virt) size) f);
+      card = ends (virtOf virt) size (and-right (endsWithin phys size) (endsWithin (virtOf virt) size) f);
     }
 
 -- the blocks of the mailboxes, one after the other

@@ -56,7 +56,8 @@ blocksFrom largest (suc f) virt phys (suc l) =
 abbrev pub blocksOf : (largest : ℕ) → Virt → (phys size : ℕ) → List Block
 blocksOf largest virt phys size = blocksFrom largest size virt phys size
 
--- 18: "device address no page multiple, its end above 2^64"; the card address ends at 2^64 or below too
+-- 18: "device address no page multiple, its end above 2^64, or bytes above 2^64 − 4,096"; the same
+-- end of the card address
 abbrev pub startAt : Virt → (phys size : ℕ) → Outcome Cutter
 startAt virt phys size =
     pick (isPage phys && (endsWithin phys size && endsWithin (virtOf virt) size)) (value (record { virt = virt; phys = phys; left = size })) (refused 18 [])

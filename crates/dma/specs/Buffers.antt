@@ -16,11 +16,11 @@ pagesFor bytes = pick (leb bytes (2 ^ 64 - 4096)) (value (max 1 ((bytes + 4095) 
 abbrev pub isPage : ℕ → Bool
 isPage address = eqb (address % 4096) 0
 
--- an end of exactly 2^64 is good
+-- "its end above 2^64, or bytes above 2^64 − 4,096": neither is so. An end of exactly 2^64 is good
 abbrev pub endsWithin : (at bytes : ℕ) → Bool
-endsWithin at bytes = leb (at + bytes) (2 ^ 64)
+endsWithin at bytes = leb bytes (2 ^ 64 - 4096) && leb (at + bytes) (2 ^ 64)
 
--- 18: "device address no page multiple, its end above 2^64"
+-- 18: "device address no page multiple, its end above 2^64, or bytes above 2^64 − 4,096"
 abbrev pub acceptAt : (dev pages : ℕ) → Outcome Unit
 acceptAt dev pages = pick (isPage dev && endsWithin dev (pages * 4096)) (value tt) (refused 18 [])
 

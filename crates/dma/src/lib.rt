@@ -124,7 +124,7 @@ pub fn accept(dev: u64, pages: u64) -> Accepted
     if dev % PAGE != 0 {
         return Accepted::Refused;
     }
-    if PAGES_MAX < pages {
+    if PAGES_MAX <= pages {
         return Accepted::Refused;
     }
     if PAGES_MAX - pages < dev / PAGE {
@@ -133,10 +133,13 @@ pub fn accept(dev: u64, pages: u64) -> Accepted
     Accepted::Good
 }
 
-// A range ends at 2^64 or below.
+// A range ends at 2^64 or below, and has no more bytes than a buffer may have.
 fn ends_within(at: u64, bytes: u64) -> bool
     ensures { λ r. ⌜ r ≡ endsWithin at bytes ⌝ }
 {
+    if BYTES_MAX < bytes {
+        return false;
+    }
     if bytes == 0 {
         return true;
     }

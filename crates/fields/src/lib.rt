@@ -101,7 +101,8 @@ fn put(s: &mut [u8], order: Order, off: usize, width: usize, v: u64)
     }
 }
 
-// Reads a field of any width up to eight bytes; a wider one is refused with 21 too.
+// Reads a field of any width up to eight bytes. A wider one has no number of 64 bits: it is refused
+// with 21, since a reader "answers .. or refuses with 21". Nothing in the product asks for one.
 pub fn field(s: &[u8], order: Order, off: usize, width: usize) -> Read64
     ensures { λ r. ⌜ read64 r ≡ pick (leb width 8) (fieldAt order (now (s .entry)) off width) (refused 21 []) ⌝ }
 {

@@ -309,6 +309,8 @@ buffers =
     row (toldUnit (acceptAt 0x1000 1) ++ toldUnit (acceptAt 0x1800 1) ++ toldUnit (acceptAt (2 ^ 64 - 4096) 1)) (0 ∷ 0 ∷ 0 ∷ []) (0 ∷ 18 ∷ 18 ∷ []) ∷
     -- accept, refused (an end above 2^64): accepted; refused with 5
     row (toldUnit (acceptAt (2 ^ 64 - 4096) 2)) (0 ∷ []) (5 ∷ []) ∷
+    -- accept, refused (2^52 pages, more bytes than a buffer may have): accepted; refused with 5
+    row (toldUnit (acceptAt 0 (2 ^ 52))) (0 ∷ []) (5 ∷ []) ∷
     -- blocks: an absent card address is 0; the end for the bytes left
     row (toldBy cutterNumbers (startAt v.Absent 0x3000 0x5000)) (0 ∷ 1 ∷ 0 ∷ 0x3000 ∷ 0x5000 ∷ []) (0 ∷ 0 ∷ 0x3000 ∷ 0x8000 ∷ []) ∷
     -- blocks: card and host address exchanged; the card address left out
@@ -319,6 +321,11 @@ buffers =
     row (toldBy cutterNumbers (startAt v.Absent (2 ^ 64 - 4096) 4096)) (18 ∷ []) (0 ∷ 0 ∷ 0xfffffffffffff000 ∷ 0 ∷ []) ∷
     -- blocks, refused (a card address that ends above 2^64): taken; refused with 17
     row (toldBy cutterNumbers (startAt (v.At (2 ^ 64 - 4096)) 0x1000 0x2000)) (0 ∷ 1 ∷ 0xfffffffffffff000 ∷ 0x1000 ∷ 0x2000 ∷ []) (17 ∷ []) ∷
+    -- blocks, refused (more bytes than a buffer may have): taken; cut to whole pages
+    row (toldBy cutterNumbers (startAt v.Absent 0 (2 ^ 64 - 1)))
+    (0 ∷ 0 ∷ 0 ∷ 0xffffffffffffffff ∷ []) (0 ∷ 0 ∷ 0 ∷ 0xfffffffffffff000 ∷ []) ∷
+    -- blocks of the most bytes: refused; a byte left out
+    row (toldBy cutterNumbers (startAt v.Absent 0 (2 ^ 64 - 4096))) (18 ∷ []) (0 ∷ 0 ∷ 0 ∷ 0xffffffffffffefff ∷ []) ∷
     -- cut: the next block starts where this one did; as many bytes left
     row (toldPiece (cutOf 63 (cutter v.Absent 0x3000 0x5000))) (0 ∷ 0x3000 ∷ 12 ∷ 0 ∷ 0x3000 ∷ 0x4000 ∷ []) (0 ∷ 0x3000 ∷ 12 ∷ 0 ∷ 0x4000 ∷ 0x5000 ∷ []) ∷
     -- cut to the end: an exponent one too small; one too large

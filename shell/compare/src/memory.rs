@@ -74,10 +74,10 @@ fn buffer(r: &mut Prng) -> Input {
     Input::words(&[dev, pages])
 }
 
-/// Added by document 01: a page multiple whose end is at most 2^64.
+/// Added by document 01: a page multiple whose end is at most 2^64, and no more than 2^64 − 4,096 bytes.
 fn accept(dev: u64, pages: u64) -> u64 {
-    let end = u128::from(dev) + u128::from(pages) * u128::from(PAGE);
-    if dev.is_multiple_of(PAGE) && end <= 1 << 64 {
+    let bytes = u128::from(pages) * u128::from(PAGE);
+    if dev.is_multiple_of(PAGE) && ends_within(dev, bytes) {
         0
     } else {
         REFUSED
@@ -118,15 +118,15 @@ fn range(r: &mut Prng) -> Input {
     Input::words(&[has, v, p, size])
 }
 
-fn ends_within(at: u64, size: u64) -> bool {
-    u128::from(at) + u128::from(size) <= 1 << 64
+fn ends_within(at: u64, size: u128) -> bool {
+    u128::from(at) + size <= 1 << 64 && size <= (1 << 64) - u128::from(PAGE)
 }
 
 /// The refusal's number, or 0 and the blocks, as many as are looked at. The Rust is asked about page multiples and about
-/// ranges that end at 2^64 or below; for others document 01 has 18.
+/// ranges of at most 2^64 − 4,096 bytes that end at 2^64 or below; for others document 01 has 18.
 fn blocks(i: &Input) -> Option<Answer> {
     let (p, size) = (i.words[2], i.words[3]);
-    if p % PAGE != 0 || !ends_within(p, size) || !ends_within(virt(i).unwrap_or(0), size) {
+    if p % PAGE != 0 || !ends_within(p, size.into()) || !ends_within(virt(i).unwrap_or(0), size.into()) {
         return Some(Answer::words(&[REFUSED]));
     }
     let mut words = vec![0];
@@ -162,10 +162,14 @@ fn rest(r: &mut Prng) -> Input {
     i
 }
 
-/// The first block of the Rust.
+fn fits(at: u64, left: u64) -> bool {
+    u128::from(at) + u128::from(left) <= 1 << 64
+}
+
+/// The first block of the Rust, of what is left of any range that ends at 2^64 or below.
 fn cut(i: &Input) -> Option<Answer> {
     let (p, size) = (i.words[2], i.words[3]);
-    if !ends_within(p, size) || !ends_within(virt(i).unwrap_or(0), size) {
+    if !fits(p, size) || !fits(virt(i).unwrap_or(0), size) {
         return None;
     }
     let block = leaves::blocks(virt(i), p, size).next();

@@ -69,6 +69,10 @@ fn ranges_outside_are_18() {
     assert!(ffi::blocks(None, 0u64.wrapping_sub(0x1000), 0x1000).is_ok());
     assert_eq!(ffi::blocks(Some(0u64.wrapping_sub(0x1000)), 0, 0x1001), Err(18));
     assert_eq!((ffi::pages_of(u64::MAX - 4094)[0], ffi::pages_of(u64::MAX - 4095)[0]), (18, 0));
+    assert_eq!(ffi::blocks(None, 0, u64::MAX), Err(18));
+    assert_eq!(ffi::blocks(None, 0, u64::MAX - 4094), Err(18));
+    assert!(ffi::blocks(None, 0, u64::MAX - 4095).is_ok());
+    assert_eq!((ffi::accept(0, 1 << 52), ffi::accept(0, (1 << 52) - 1), ffi::accept(4096, (1 << 52) - 1)), (18, 0, 0));
 }
 
 /// A mailbox of another length is 21 and stays as it was.
