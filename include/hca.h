@@ -7,7 +7,7 @@
  *
  * Every function gives 0, or the number of a refusal, and takes any bytes, lengths and numbers. A call that is refused changes nothing: no lent byte, no session, no open
  * question. Where several refusals fit, it is the first of 20, 21, 22, 19, 18; except that fewer bytes than HCA_STATE are HCA_SHORT unless the kind of the call is unknown, or
- * the answer is of no kind or its value too wide. Each function names the refusals that it has; hca_push_undo and those that only read have an order of their own.
+ * the answer is of no kind or its value too wide. Each function names the refusals that it has; those that only read have an order of their own.
  *
  * What is lent stays the caller's: no function keeps a pointer, and none has memory of its own, so sessions do not know of each other. Who writes what:
  *   state     hca_fresh, hca_call and hca_answer, in its first HCA_STATE bytes; no one else, from hca_fresh to the end. It may lie elsewhere at each call
@@ -45,13 +45,14 @@ extern "C" {
 #define HCA_BYTES 18    /* more than 2^64 - 4,096 bytes are to be lent */
 #define HCA_FULL 19     /* HCA_LENT_BUFFERS are lent, or HCA_UNDO_RECORDS stand on the list */
 #define HCA_WRONG 20    /* a call at the wrong time or of no kind, an answer of the wrong kind, bytes that are no session */
-#define HCA_SHORT 21    /* a slice is too short, a mailbox has not HCA_MAILBOX bytes, an input has more; `count` is above `undo_records` or above HCA_UNDO_RECORDS */
+#define HCA_SHORT 21    /* a slice is too short, a mailbox has not HCA_MAILBOX bytes, an input has more; `count` is above `undo_records` or above HCA_UNDO_RECORDS, or there is no place for a record */
 #define HCA_RESERVED 22 /* an opcode that bring-up or closing sends, queries excepted, or that is above 0xfff */
 
 /*
  * A command that takes an object back: the caller's own record. The undo list is an array of these, oldest first, in `undo`, with room for `undo_records`, of which the first
- * `count` are on the list. HCA_UNDO_TO, HCA_QUIESCE and every closing send the newest first, and each is off the list before it is sent: the last word that a call writes says
- * how many are left, and the caller lends no more than these to the next call. He may change the list between two calls; the newest record is taken as it stands then.
+ * `count` are on the list. HCA_UNDO_TO, HCA_QUIESCE and every closing send the newest first, and each is popped before it is sent: the last word that a call writes says how many are
+ * left. The caller keeps the array and the count, and nothing here remembers either: after each hca_call and hca_answer that was taken his count is that word. Popping writes nothing
+ * to the array; who lends the old count again has put the record on again, and it is sent again. He may change the list between two calls; the newest record is taken as it stands then.
  */
 typedef struct hca_undo {
     uint16_t op;
@@ -150,10 +151,9 @@ uint32_t hca_answer(uint8_t *state, size_t state_bytes, uint32_t kind, uint64_t 
 
 /*
  * Puts a record on the undo list, at place `count`; the caller's count is then one more. It takes no session, and is called at any time. In this order:
- *   HCA_SHORT     `count` is above `undo_records` or above HCA_UNDO_RECORDS: this is no list
+ *   HCA_SHORT     `count` is above `undo_records` or above HCA_UNDO_RECORDS: this is no list; or it is `undo_records`, and below HCA_UNDO_RECORDS: the array has no place left
  *   HCA_RESERVED  the opcode
  *   HCA_FULL      `count` is HCA_UNDO_RECORDS
- *   HCA_SHORT     `count` is `undo_records`: the array has no place left
  * Nothing is written but the record, and nothing where it is refused.
  */
 uint32_t hca_push_undo(hca_undo *undo, size_t undo_records, size_t count, uint16_t op, uint8_t op_mod, uint32_t in_mod, uint64_t in_param);
@@ -189,6 +189,8 @@ uint32_t hca_question(const uint8_t *state, size_t state_bytes, uint8_t *out, si
  *   8  the command register was busy before a command                     18  a device address is no page multiple, or a size or an end passes 2^64
  *   9  a bus call failed within a command (microseconds)                  22  an undo record has got a reserved opcode since the call began
  *   10 not the primary function: QUERY_FW ended with status 0x50          23  an undo command failed, or one was wanted on a broken session
+ * 23 stands too where one call has sent 2^32 - 1 undo records and there are more: no list holds so many, so that only a caller who pushes on and on while it runs is stopped, and
+ * every call ends. In a closing or a quiesce that counts as a failed undo command.
  * A closing went clean (0), by a reset (1), or everything is kept and must never be given back (2): hca_books then names it. The first two have given everything back.
  */
 #define HCA_RESULT 40

@@ -1,6 +1,6 @@
 -- DEMAND 3 OVER C LINKAGE, from the theorem about sessions by value: a call on bytes is a call on the session that they hold, or it is refused, and then an event that is
 -- refused in any case stands for it.
-use Prim.Native.Nat.{ℕ, zero, suc, _<_, _^_}
+use Prim.Native.Nat.{ℕ, _-_, _<_, _^_}
 use native.Mathlib.Omega.{arith}
 use mathlib.Core.Bool.{Bool, true, false}
 use mathlib.Core.List.{List, [], _∷_, _++_}
@@ -34,6 +34,7 @@ use Rattle.session.specs.declared.Failure.{Failure}
 use Rattle.session.specs.declared.Failure.the-variants as f
 use Rattle.session.specs.declared.Session.{Session}
 use Rattle.undo.specs.List.{none as noRecord, topOf, topAt, anyReserved}
+use Rattle.undo.proofs.Laws.{top-cases}
 use Rattle.undo.specs.declared.Undo.{Undo}
 use Rattle.fw_plan.specs.Calls.{asksOf, inTime, isLent, answerable, answerOf, answerIn, answerOut, refusedOf, stepOf, stepTurn}
 use Rattle.fw_plan.specs.declared.Turn.{Turn}
@@ -147,13 +148,7 @@ none-sized : (n : ℕ) → Typed (topAt n noRecord)
 none-sized n = record { opMod = omega arith; inMod = omega arith; inParam = omega arith }
 
 top-typed : (l : List Undo) (n : ℕ) → ((i : ℕ) → UndoSized (getD l i noRecord)) → Typed (topOf l n)
-unfolding topOf
-top-typed l zero h = none-sized 0
-top-typed l (suc n) h = by (ltb n (length l))
-  where
-    by : (b : Bool) → Typed (pick b (topAt (suc n) (getD l n noRecord)) (topAt 257 noRecord))
-    by true = let z = h n in record { opMod = z .opMod; inMod = z .inMod; inParam = z .inParam }
-    by false = none-sized 257
+top-typed l n h = top-cases Typed l n (none-sized 257) (none-sized 0) (let z = h (n - 1) in record { opMod = z .opMod; inMod = z .inMod; inParam = z .inParam })
 
 -- A KIND that has no such number is refused, and not with 0; the numbers of a call are those of its type
 abbrev SizedIn : Outcome Call → Type 0

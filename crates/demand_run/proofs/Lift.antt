@@ -23,6 +23,7 @@ use Rattle.session.specs.declared.Failure.{Failure}
 use Rattle.session.specs.declared.Failure.the-variants as f
 use Rattle.session.specs.declared.Session.{Session}
 use Rattle.undo.specs.List.{undoOf, none as noRecord, topOf, topAt, anyReserved}
+use Rattle.undo.proofs.Laws.{top-suc}
 use Rattle.undo.specs.declared.Undo.{Undo}
 use Rattle.fw_plan.specs.Calls.{asksOf, inTime, isLent, answerable, answerOf, answerIn, answerOut, stepOf, stepIn, refusedOf}
 use Rattle.fw_plan.specs.declared.Turn.{Turn}
@@ -99,15 +100,14 @@ recordOf u = undoOf (u .op) (u .«op_mod») (u .«in_mod») (u .«in_param»)
 abbrev listOf : Top → List Undo
 listOf u = replicate (u .count) (recordOf u)
 
-top-is : (u : Top) → (u .count ≡ 0 → u ≡ noUndo) → topOf (listOf u) (u .count) ≡ u
+top-is : (u : Top) → u .count ≤ 256 → (u .count ≡ 0 → u ≡ noUndo) → topOf (listOf u) (u .count) ≡ u
 unfolding topOf
-top-is u h = by (u .count) refl
+top-is u few h = by (u .count) refl
   where
     by : (n : ℕ) → u .count ≡ n → topOf (replicate n (recordOf u)) n ≡ u
     by zero e = sym (h e)
     by (suc n) e =
-        ap (λ (b : Bool). pick b (topAt (suc n) (getD (replicate (suc n) (recordOf u)) n noRecord)) (topAt 257 noRecord))
-        (lt-ltb n (length (replicate (suc n) (recordOf u))) (let l = length-replicate (suc n) (recordOf u) in omega (arith, l)))
+        top-suc (replicate (suc n) (recordOf u)) n (let l = length-replicate (suc n) (recordOf u) in omega (arith, l)) (omega (arith, few, e))
         ∙ ap (topAt (suc n)) (getD-replicate (suc n) n (recordOf u) noRecord (omega arith)) ∙ ap (λ (k : ℕ). topAt k (recordOf u)) (sym e)
 
 pub no-record : TypedUndo noRecord
@@ -292,12 +292,12 @@ module _ (st : List ℕ) (x m : Stand) (h : Held st x) (v : Answer) (r i o : Lis
     told = turnIn blankOut (answerOf (x .session) v r i o u .question) (answerOf (x .session) v r i o u .undo);
     leaves =
         ap (λ (z : Outcome Answer). heardBy z r (topOf (listOf u) (u .count)) st i o blankOut) (heard v (t .typed .0))
-        ∙ ap (λ (z : Top). answer v r z st i o blankOut) (top-is u (t .lent .listed)) ∙ poll-is-whole v r u st i o blankOut (x .session) (h .slice .bytes) (h .held)
+        ∙ ap (λ (z : Top). answer v r z st i o blankOut) (top-is u (leb-true (u .count) 256 (t .lent .undo)) (t .lent .listed)) ∙ poll-is-whole v r u st i o blankOut (x .session) (h .slice .bytes) (h .held)
         ∙ ap (λ (z : Outcome Session). onSession z (λ y. answerKnown y v r u st i o blankOut) st i o blankOut) (h .held)
         ∙ taken-is (answerable (x .session) v) (answerOf (x .session) v r i o u) (answerIn (x .session) v r i o u) (answerOut (x .session) v r i o u) st i o (in-answer .0) (t .taken);
     next =
         ap (λ (z : Outcome Answer). heardNext z r (topOf (listOf u) (u .count)) i o blankOut (x .session)) (heard v (t .typed .0))
-        ∙ ap (λ (z : Top). answerNext v r z i o blankOut (x .session)) (top-is u (t .lent .listed))
+        ∙ ap (λ (z : Top). answerNext v r z i o blankOut (x .session)) (top-is u (leb-true (u .count) 256 (t .lent .undo)) (t .lent .listed))
         ∙ next-is (answerable (x .session) v) (answerOf (x .session) v r i o u) (x .session) (in-answer .0) (t .taken);
     room = short i _ (in-answer .1);
     outs = t .lent .outbox;

@@ -1,5 +1,7 @@
-// The undo list: the caller's own slice of records, and how many of them count. A call takes the count and the newest record by value, and gives back the count that is
-// left: that is how a record is taken off, and what stood in it stays. Thin functions over the slice; what is decided is decided by value.
+// The undo list: the caller's own slice of records, and how many of them count. `push_undo` and
+// `pop_undo` are thin over the slice; what they do is decided by value. A pop reads: the slice is
+// the caller's to write, and a record is off the list once he counts it no more. So a call says how
+// many are left.
 use session::Top;
 ghost use mathlib.Core.Path.{_≡_};
 ghost use Prim.Native.Nat.{_-_, min};
@@ -7,7 +9,8 @@ ghost use mathlib.Core.Bool.{_||_};
 ghost use lib.ListN.{length, getD, take, drop};
 ghost use Rattle.fields.specs.Outcome.{numberOf};
 ghost use Rattle.hcr.specs.Words.{isReserved};
-ghost use Rattle.undo.specs.List.{none, topBy, topOf, anyReserved, outcome, stored, pushOf, pushedIn};
+ghost use Rattle.undo.specs.List.{none, taken, popBy, popOf, topBy, topOf, anyReserved};
+ghost use Rattle.undo.specs.List.{outcome, stored, pushOf, pushedIn};
 
 // A command that takes back what a client did.
 #[repr(C)]
@@ -21,8 +24,8 @@ pub struct Undo {
 // How many records a list holds at most.
 pub const MOST: usize = 256;
 
-// What a push gives: the new count; or 21 where the count is above the slice or above 256, or the slice has no place for one more; 22 for a reserved opcode; 19
-// where the list is full.
+// What a push gives: the new count; or 21 where the count is above 256, or the slice has no place
+// for the record; 22 for a reserved opcode; 19 where the list is full.
 pub enum Pushed {
     At(usize),
     Short,
@@ -42,6 +45,14 @@ impl Pushed {
             Pushed::Full => 19,
         }
     }
+}
+
+// What a pop gives: the newest record, and how many are left below it; nothing of an empty list; or
+// 21 where the count is above the slice or above 256.
+pub enum Popped {
+    Newest(Undo, usize),
+    Empty,
+    Short,
 }
 
 // The record at a place; one of zeros past the end.
@@ -70,43 +81,68 @@ fn last_place(count: usize) -> usize
     count - 1
 }
 
-// What a call takes of a list: the count and the newest record. A count above the slice's length is told as 257, more than any list holds, so that every call
-// refuses it with 21. An empty list is looked for first: it is what most answers are lent.
-fn top_by(len: usize, count: usize, u: Undo) -> Top
-    ensures { λ r. ⌜ r ≡ topBy len count u ⌝ }
+// A pop by value: `u` is the record at the last place. An empty list is looked for first: it is
+// what most answers are lent.
+fn pop_by(len: usize, count: usize, u: Undo) -> Popped
+    ensures { λ r. ⌜ taken r ≡ popBy len count u ⌝ }
 {
     if count == 0 {
-        return Top {
+        return Popped::Empty;
+    }
+    if len < count {
+        return Popped::Short;
+    }
+    if MOST < count {
+        return Popped::Short;
+    }
+    Popped::Newest(u, count - 1)
+}
+
+// The newest record of the list, and how many are left once it is taken off.
+pub fn pop_undo(list: &[Undo], count: usize) -> Popped
+    ensures { λ r. ⌜ taken r ≡ popOf (now (list .entry)) count ⌝ }
+{
+    let u = record_at(list, last_place(count));
+    pop_by(list.len(), count, u)
+}
+
+// What a call takes of a pop: the count as it is lent, and the newest record. A list that is none
+// counts 257, more than any list holds, so that every call refuses it with 21.
+fn top_by(count: usize, p: Popped) -> Top
+    ensures { λ r. ⌜ r ≡ topBy count (taken p) ⌝ }
+{
+    match p {
+        Popped::Newest(u, _) => Top {
+            count,
+            op: u.op,
+            op_mod: u.op_mod,
+            in_mod: u.in_mod,
+            in_param: u.in_param,
+        },
+        Popped::Empty => Top {
             count: 0,
             op: 0,
             op_mod: 0,
             in_mod: 0,
             in_param: 0,
-        };
-    }
-    if len < count {
-        return Top {
-            count: 257,
+        },
+        Popped::Short => Top {
+            count: MOST + 1,
             op: 0,
             op_mod: 0,
             in_mod: 0,
             in_param: 0,
-        };
-    }
-    Top {
-        count,
-        op: u.op,
-        op_mod: u.op_mod,
-        in_mod: u.in_mod,
-        in_param: u.in_param,
+        },
     }
 }
 
+// The count and the newest record, as a call takes them by value; whether it takes the record off
+// is the call's to decide.
 pub fn top(list: &[Undo], count: usize) -> Top
     ensures { λ r. ⌜ r ≡ topOf (now (list .entry)) count ⌝ }
 {
-    let u = record_at(list, last_place(count));
-    top_by(list.len(), count, u)
+    let p = pop_undo(list, count);
+    top_by(count, p)
 }
 
 fn least(a: usize, b: usize) -> usize
@@ -143,14 +179,14 @@ pub fn reserved_above(list: &[Undo], mark: usize, count: usize) -> bool
     seen
 }
 
-// Where a record goes in a slice of this length.
+// Where a record goes in a slice of this length. A full list asks for no place.
 fn place(len: usize, count: usize, op: u16) -> Pushed
     ensures { λ r. ⌜ outcome r ≡ pushOf len count op ⌝ }
 {
-    if len < count {
+    if MOST < count {
         return Pushed::Short;
     }
-    if MOST < count {
+    if len < least(count + 1, MOST) {
         return Pushed::Short;
     }
     if hcr::reserved(op) {
@@ -158,9 +194,6 @@ fn place(len: usize, count: usize, op: u16) -> Pushed
     }
     if count == MOST {
         return Pushed::Full;
-    }
-    if count == len {
-        return Pushed::Short;
     }
     Pushed::At(count + 1)
 }

@@ -313,6 +313,10 @@ linked =
     -- hca_push_undo (good, reserved, 256 there, no room, a count above the list with a reserved opcode): a reserved opcode let through; 22 before 21
     row (numberOf (pushOf 2 1 0x20) ∷ numberOf (pushOf 2 1 0x008) ∷ numberOf (pushOf 300 256 0x20) ∷ numberOf (pushOf 2 2 0x20) ∷ numberOf (pushOf 2 3 0x008) ∷ [])
     (0 ∷ 0 ∷ 19 ∷ 21 ∷ 21 ∷ []) (0 ∷ 22 ∷ 19 ∷ 21 ∷ 22 ∷ []) ∷
+    -- hca_push_undo (0xfff to five of five; 256 of 256, a good opcode, a reserved one): 22 before
+    -- 21; 19 before 22
+    row (numberOf (pushOf 5 5 0xfff) ∷ numberOf (pushOf 256 256 0x20) ∷ numberOf (pushOf 256 256 0x008) ∷ [])
+    (22 ∷ 19 ∷ 22 ∷ []) (21 ∷ 19 ∷ 19 ∷ []) ∷
     -- hca_push_undo (the opcodes on the list then): over the newest one; not pushed
     row (opcodes (pushedIn (undoOf 0x11 0 0 0 ∷ undoOf 0 0 0 0 ∷ []) 1 (undoOf 0x20 0 0 0))) (0x20 ∷ 0 ∷ []) (0x11 ∷ 0 ∷ []) ∷
     -- hca_push_undo, refused: pushed all the same; the newest one lost

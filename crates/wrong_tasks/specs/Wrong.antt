@@ -92,7 +92,7 @@ use Rattle.work.specs.declared.Ending.{Ending}
 use Rattle.work.specs.declared.Ending.the-variants as wg
 use Rattle.work.specs.declared.WorkStep.{WorkStep}
 use Rattle.session.specs.declared.Top.{Top}
-use Rattle.undo.specs.List.{undoOf, topOf, anyReserved, outcome, pushOf, pushedIn}
+use Rattle.undo.specs.List.{undoOf, popOf, topOf, anyReserved, outcome, pushOf, pushedIn}
 use Rattle.undo.specs.declared.Undo.{Undo}
 use Rattle.undo.specs.declared.Pushed.{Pushed}
 use Rattle.undo.specs.declared.Pushed.the-variants as v
@@ -751,6 +751,12 @@ records = undoOf 0x43 1 2 3 ∷ undoOf 0x44 4 5 6 ∷ undoOf 0x007 7 8 9 ∷ []
 abbrev toldTop : Top → List ℕ
 toldTop t = t .count ∷ t .op ∷ t .«op_mod» ∷ t .«in_mod» ∷ t .«in_param» ∷ []
 
+-- the number of what a pop comes to; how many are left, and the record, where there is one
+abbrev toldPop : Outcome (Option (Undo × ℕ)) → List ℕ
+toldPop (value (some (u, n))) = 0 ∷ n ∷ u .op ∷ u .«op_mod» ∷ u .«in_mod» ∷ u .«in_param» ∷ []
+toldPop (value none) = 0 ∷ []
+toldPop (refused n vs) = n ∷ vs
+
 -- the number of what a push comes to
 abbrev numbered : Pushed → ℕ
 numbered p = numberOf (outcome p)
@@ -767,6 +773,14 @@ abbrev pub undos : List Row
 undos =
     -- Pushed::number (pushed, short, opcode, full): a full list is 18; pushed is 1
     row (numbered (v.At 1) ∷ numbered v.Short ∷ numbered v.Opcode ∷ numbered v.Full ∷ []) (0 ∷ 21 ∷ 22 ∷ 18 ∷ []) (1 ∷ 21 ∷ 22 ∷ 19 ∷ []) ∷
+    -- pop_undo of two: the record at the count; as many are left
+    row (toldPop (popOf records 2)) (0 ∷ 1 ∷ 0x007 ∷ 7 ∷ 8 ∷ 9 ∷ []) (0 ∷ 2 ∷ 0x44 ∷ 4 ∷ 5 ∷ 6 ∷ []) ∷
+    -- pop_undo of none: the first record; 21
+    row (toldPop (popOf records 0)) (0 ∷ 0 ∷ 0x43 ∷ 1 ∷ 2 ∷ 3 ∷ []) (21 ∷ []) ∷
+    -- pop_undo of a count above the slice: nothing; the last record
+    row (toldPop (popOf records 4)) (0 ∷ []) (0 ∷ 2 ∷ 0x007 ∷ 7 ∷ 8 ∷ 9 ∷ []) ∷
+    -- pop_undo of 257 of 300: the newest record; 19
+    row (toldPop (popOf (replicate 300 (undoOf 0x43 1 2 3)) 257)) (0 ∷ 256 ∷ 0x43 ∷ 1 ∷ 2 ∷ 3 ∷ []) (19 ∷ []) ∷
     -- top of two: the record at the count; the oldest
     row (toldTop (topOf records 2)) (2 ∷ 0x007 ∷ 7 ∷ 8 ∷ 9 ∷ []) (2 ∷ 0x43 ∷ 1 ∷ 2 ∷ 3 ∷ []) ∷
     -- top of all three: none past the end; one too many
@@ -789,6 +803,10 @@ undos =
     row (told (pushOf 256 256 0x007)) (19 ∷ []) (21 ∷ []) ∷
     -- push_undo, a count above the slice with a reserved opcode: 22 first; 19
     row (told (pushOf 2 3 0x007)) (22 ∷ []) (19 ∷ []) ∷
+    -- push_undo of a reserved opcode where the slice has no place: 22 first; 19
+    row (told (pushOf 5 5 0xfff)) (22 ∷ []) (19 ∷ []) ∷
+    -- push_undo at 256 of 256, all of the slice: 21 first; pushed
+    row (told (pushOf 256 256 0x43)) (21 ∷ []) (0 ∷ 257 ∷ []) ∷
     -- push_undo where the slice has no place: 19; past the end
     row (told (pushOf 2 2 0x43)) (19 ∷ []) (0 ∷ 3 ∷ []) ∷
     -- push_undo, the list then: one place too high; not at all

@@ -230,17 +230,32 @@ fn a_lent_buffer_at_a_bad_address() {
     }
 }
 
-/// The order of 21, 22, 19, 21, and that nothing else is written.
+/// The order of 21, 22, 19: a slice without a place comes before the opcode, and a full list asks for no place.
+#[test]
+fn a_push_tells_21_before_22_before_19() {
+    let pushed = |records: usize, op: u16| {
+        let mut list = vec![record(0x20); records];
+        (ffi::push_undo(&mut list, records, record(op)), list == vec![record(0x20); records])
+    };
+    assert_eq!(pushed(5, 0xfff), (abi::SHORT, true));
+    assert_eq!(pushed(255, 0xfff), (abi::SHORT, true));
+    assert_eq!(pushed(256, 0x20), (abi::FULL, true));
+    assert_eq!(pushed(256, 0xfff), (abi::RESERVED, true));
+    let mut list = [record(1), Undo::default()];
+    let mut undo = UndoList::holding(&mut list[..1], 1);
+    assert_eq!((undo.push(record(0xfff)), undo.len()), (Err(Refused::Short), 1));
+}
+
+/// Every push in that order, and that nothing else is written.
 #[test]
 fn pushing_records() {
     for records in [0, 1, 2, 255, 256, 257, 300] {
         for count in [0, 1, 2, 254, 255, 256, 257, 300, usize::MAX] {
             for op in [FREE, 0x004, 0xfff, 0x1000] {
                 let number = match count {
-                    n if n > records || n > UNDO_RECORDS => abi::SHORT,
+                    n if n > UNDO_RECORDS || records < UNDO_RECORDS.min(n + 1) => abi::SHORT,
                     _ if op >= 0xfff => abi::RESERVED,
                     UNDO_RECORDS => abi::FULL,
-                    n if n == records => abi::SHORT,
                     _ => 0,
                 };
                 let mut list: Vec<Undo> = (0..records).map(|n| record(n as u16)).collect();
@@ -309,6 +324,14 @@ fn a_list_that_changes_while_it_is_undone() {
     assert_eq!(got, (vec![0x23], Outcome::Open, vec![], false));
     let got = changed(Call::Quiesce, &[0x21, 0x22], 0x22, &more);
     assert_eq!((got.0, got.2), (vec![0x22, 0x24, 0x21, CLOSE_HCA], vec![]));
+}
+
+/// The count is the caller's: a record that was popped and is counted again, as it stands there still, is sent again.
+#[test]
+fn a_record_that_is_counted_again_is_sent_again() {
+    let again = |undo: &mut UndoList| undo.push(record(0x22)).expect("a place");
+    let got = changed(Call::UndoTo { mark: 0 }, &[0x21, 0x22], 0x22, &again);
+    assert_eq!(got, (vec![0x22, 0x22, 0x21], Outcome::Open, vec![], false));
 }
 
 /// A reserved record on the list from the start: a quiesce and a close meet it at its turn.

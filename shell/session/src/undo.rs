@@ -19,8 +19,9 @@ pub struct Undo {
 
 /// The commands that take back what was made on the open session, oldest first, in a slice that the caller lends;
 /// `abi::UNDO_RECORDS` are the most that can stand there. `undo_to`, `quiesce` and a closing send the newest first, and each is
-/// off the list before it is sent. The caller may change the list between any two turns of a call: the newest record is
-/// taken as it stands then. Records found on it when an opening fails are sent by that opening's closing.
+/// off the list before it is sent: the list keeps the count that the turn before has left, so that no record is sent twice. The
+/// caller may change the list between any two turns of a call: the newest record is taken as it stands then. Records found
+/// on it when an opening fails are sent by that opening's closing.
 #[derive(PartialEq, Eq, Debug)]
 pub struct UndoList<'a> {
     records: &'a mut [Undo],
@@ -39,8 +40,8 @@ impl<'a> UndoList<'a> {
         UndoList { records, count }
     }
 
-    /// Puts a record on. `Refused::Reserved` where no client may send its opcode, `Refused::Full` behind the 256th,
-    /// `Refused::Short` where the slice has no place for it.
+    /// Puts a record on. `Refused::Short` where the slice has no place for it, `Refused::Reserved` where no client may send
+    /// its opcode, `Refused::Full` behind the 256th, in this order; a full list asks for no place.
     pub fn push(&mut self, record: Undo) -> Result<(), Refused> {
         taken(ffi::push_undo(self.records, self.count, record))?;
         self.count += 1;

@@ -1,15 +1,17 @@
-use native.Mathlib.Omega.{arith}
-use borrow.Author.Tests.{lt-ltb, le-ltb, eq-eqb, ne-eqb}
+use borrow.Author.Needs.{needs}
 use Rattle.undo.proofs.top_by.Statement.{statement}
 use Rattle.undo.proofs.top_by.Tie as tie
 
 returns : tie.Need-returns
-returns c = let p = c .before .args in let e = c .if1 .taken in simp (le-ltb (p .len) (p .count) (omega arith), eq-eqb _ _ e)
+returns c = rw (c .before .p .given .1)
+
+returns-2 : tie.Need-returns-2
+returns-2 c = rw (c .enum-told .given .1)
+
+returns-3 : tie.Need-returns-3
+returns-3 c = rw (c .enum-told2 .given .1)
 
 pub top-by-spec : {M : Type 1} → statement M
 top-by-spec =
     tie.close
-    (tie.spec
-    returns
-    (λ c. simp (lt-ltb _ _ (c .if2 .taken)))
-    (λ c. simp (ne-eqb _ _ (c .before .if1 .left), le-ltb _ _ (c .if2 .left))))
+    (tie.spec (λ c. search needs) (λ c. search needs) (λ c. search needs) (λ c. search needs) returns returns-2 returns-3)

@@ -86,10 +86,9 @@ fn wanted(made: &Made) -> &[Undo] {
 fn pushed(made: &Made) -> u32 {
     let records = made.undo.len();
     match made.count {
-        n if n > records || n > abi::UNDO_RECORDS => abi::SHORT,
+        n if n > abi::UNDO_RECORDS || records < abi::UNDO_RECORDS.min(n + 1) => abi::SHORT,
         _ if reserved(made.call.op) => abi::RESERVED,
         abi::UNDO_RECORDS => abi::FULL,
-        n if n == records => abi::SHORT,
         _ => 0,
     }
 }
