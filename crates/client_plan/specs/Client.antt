@@ -112,7 +112,9 @@ module _ (n : Info) (f : Failure) (c : Closing) where
   lending bytes b h = task (making bytes) (λ y j. lentBy y b j) h
 
   -- UNDO_TO: the newest record of the list as it is lent then, while there are more than `mark`. "An undo record is taken off before its command is sent"; "one the caller
-  -- has since made so ends it with 22"; "23 undo of a record wanted on a broken session, or an undo command failed"
+  -- has since made so ends it with 22"; "23 undo of a record wanted on a broken session, or an undo
+  -- command failed". Behind UNDOS records it is 23 as well, so that every call ends: no sentence of
+  -- the paper says so (docs/DECISIONS.md, O-11)
   unfoldable pub undoing : (mark more : ℕ) → Books → Here → Course Rest
   undoing mark zero b h =
       pick (leb (h .undo .count) mark) (gives v.Nothing b h)

@@ -70,7 +70,9 @@ undoPost u = immOf (u .op) (u .«op_mod») (u .«in_mod») (u .«in_param»)
 abbrev pub popped : Top → Top
 popped u = record { count = u .count - 1; op = u .op; «op_mod» = u .«op_mod»; «in_mod» = u .«in_mod»; «in_param» = u .«in_param» }
 
--- how many undo records a closing sends at most; more than any list holds, so that only a caller who pushes on and on is stopped
+-- how many undo records one call sends at most, so that every call ends; more than any list holds,
+-- so that only a caller who pushes on and on is stopped, as by a failed undo command. No sentence
+-- of the paper says so: docs/DECISIONS.md, O-11
 abbrev pub UNDOS : ℕ
 UNDOS = 2 ^ 32 - 1
 
