@@ -1,19 +1,14 @@
--- The BAR dwords: the address that one holds, and the indices that PCI I/O may know it by; and the resource descriptor. Document 01, bars.
+-- The BAR dwords: the address that one holds, and the indices that PCI I/O may know it by. Document 01, bars.
 use Prim.Native.Nat.{ℕ, suc, _+_, _*_, _/_, _%_}
 use mathlib.Core.Bool.{Bool, true, false, _&&_, not}
 use mathlib.Core.List.{List, [], _∷_}
-use mathlib.Core.Option.{Option, none, some}
-use lib.ListN.{length, getD, take}
+use lib.ListN.{getD, take}
 use lib.Dec.{eqb, leb}
 use Rattle.fields.specs.Outcome.{Outcome, value, refused, pick}
-use Rattle.fields.specs.Fields.{numberAt}
-use Rattle.fields.specs.declared.Order.the-variants.{Little}
 use Rattle.bars.specs.declared.Address.{Address}
 use Rattle.bars.specs.declared.Address.the-variants as a
 use Rattle.bars.specs.declared.Indices.{Indices}
 use Rattle.bars.specs.declared.Indices.the-variants as i
-use Rattle.bars.specs.declared.BarRange.{BarRange}
-use Rattle.bars.specs.declared.BarRange.the-variants as b
 
 -- Public document: PCI Local Bus, base address registers (what the low bits say; the two dwords of
 -- a 64-bit BAR). It was not at hand; bits and places are those of Linux's pci_regs.h.
@@ -56,11 +51,6 @@ candidatesAt regs reg = inRange reg (reg, countOf regs reg)
 abbrev pub widthOf : ℕ → ℕ
 widthOf dword = pick (is64 dword) 2 1
 
--- "A resource of 46 bytes or more starting with 0x8a gives base at 14 and length at 38 (little-endian 64 bits); anything else is no answer."
-abbrev pub resourceAt : List ℕ → Option (ℕ × ℕ)
-resourceAt bytes =
-    pick (leb 46 (length bytes) && eqb (getD bytes 0 0) 0x8a) (some (numberAt Little bytes 14 8, numberAt Little bytes 38 8)) none
-
 -- what each answer stands for
 abbrev pub address : Address → Outcome ℕ
 address (a.At base) = value base
@@ -69,8 +59,3 @@ address a.Refused = refused 4 []
 abbrev pub indices : Indices → Outcome (ℕ × ℕ)
 indices (i.Both first second) = value (first, second)
 indices i.Refused = refused 4 []
-
--- the base and the length, or no answer
-abbrev pub range : BarRange → Option (ℕ × ℕ)
-range (b.Range base length) = some (base, length)
-range b.NoAnswer = none

@@ -1,3 +1,4 @@
 pub mod Bars
+pub mod Resource
 pub mod Choose
 pub mod Steps

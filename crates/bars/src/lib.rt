@@ -1,11 +1,13 @@
-// PCI base address registers: the address in one, the two indices that PCI I/O may know it by, and the choice between them as steps by value.
+// PCI base address registers: the address in one, the firmware's resource list of one, the two indices that PCI I/O may know it by, and
+// the choice between them as steps by value.
 ghost use mathlib.Core.Path.{_≡_};
-ghost use Prim.Native.Nat.{_≤_};
+ghost use Prim.Native.Nat.{_≤_, _<_};
+ghost use lib.ListN.{length};
 ghost use Rattle.fields.specs.Outcome.{valueOr};
 ghost use Rattle.fields.specs.Fields.{fieldAt};
 ghost use Rattle.fields.specs.declared.Order.the-variants.{Little};
 ghost use Rattle.bars.specs.Bars.{is64, lowPart, highPart, baseOf, baseAt, address, widthOf, countOf, candidatesAt, indices};
-ghost use Rattle.bars.specs.Bars.{resourceAt, range};
+ghost use Rattle.bars.specs.Resource.{resourceAt, memoryIn, lengthIn, listed};
 ghost use Rattle.bars.specs.Choose.{hasBase, isOther, othersFrom};
 ghost use Rattle.bars.specs.Steps.{sizeFrom, pickOf, settledOf, onwardOf, judgedOf, stepAt, stepOf, chooseAt, begun};
 ghost use Rattle.bars.specs.declared.Asking.the-variants.{First, Other};
@@ -39,13 +41,29 @@ pub enum BarRange {
     NoAnswer,
 }
 
-impl BarRange {
-    // The descriptor that gives one: its first byte, the bytes that it has at least, and where base and length stand.
+// What a firmware's resource list says of a BAR: its range, no answer, or 27 for a list that is damaged or cut.
+pub enum BarList {
+    Range { base: u64, length: u64 },
+    NoAnswer,
+    Bad,
+}
+
+impl BarList {
+    // A QWORD address space descriptor: its tag, the bytes of its header, where its type stands, and the type of a memory range.
     pub const TAG: u8 = 0x8a;
 
-    pub const BYTES: usize = 46;
+    pub const HEADER: usize = 3;
 
-    pub const BASE: usize = 14;
+    pub const TYPE: usize = 3;
+
+    pub const MEMORY: u8 = 0;
+
+    // The bytes that a range has behind the header at least, and where its fields stand.
+    pub const LEAST: usize = 43;
+
+    pub const MINIMUM: usize = 14;
+
+    pub const OFFSET: usize = 30;
 
     pub const LENGTH: usize = 38;
 }
@@ -195,20 +213,60 @@ fn number(bytes: &[u8], off: usize) -> u64
     }
 }
 
-// The range that a resource descriptor gives, or no answer where it gives none.
-pub fn resource(bytes: &[u8]) -> BarRange
-    ensures { λ r. ⌜ range r ≡ resourceAt (now (bytes .entry)) ⌝ }
+// How many bytes a descriptor has behind its header.
+fn length_of(descriptor: &[u8]) -> usize
+    requires { ⌜ 3 ≤ length (now descriptor) ⌝ }
+    ensures { λ r. ⌜ (r ≡ lengthIn (now (descriptor .entry))) × (r < 65536) ⌝ }
 {
-    if bytes.len() < BarRange::BYTES {
-        return BarRange::NoAnswer;
+    match fields::le16(descriptor, 1) {
+        fields::Read16::Value(v) => v as usize,
+        fields::Read16::Short => 0,
     }
-    if bytes[0] != BarRange::TAG {
-        return BarRange::NoAnswer;
+}
+
+// The range that a memory descriptor gives; 27 where it is too short for one, or not whole.
+fn memory(descriptor: &[u8]) -> BarList
+    requires { ⌜ 3 ≤ length (now descriptor) ⌝ }
+    ensures { λ r. ⌜ listed r ≡ memoryIn (now (descriptor .entry)) ⌝ }
+{
+    let n = length_of(descriptor);
+    if n < BarList::LEAST {
+        return BarList::Bad;
     }
-    BarRange::Range {
-        base: number(bytes, BarRange::BASE),
-        length: number(bytes, BarRange::LENGTH),
+    if descriptor.len() < BarList::HEADER + n {
+        return BarList::Bad;
     }
+    let minimum = number(descriptor, BarList::MINIMUM);
+    let offset = number(descriptor, BarList::OFFSET);
+    BarList::Range {
+        base: std::num::wrapping_add_u64(minimum, offset),
+        length: number(descriptor, BarList::LENGTH),
+    }
+}
+
+// Walks a resource list to the first memory descriptor. The end tag and an unknown tag are no answer; what follows is not looked at.
+pub fn resource(bytes: &[u8]) -> BarList
+    ensures { λ r. ⌜ listed r ≡ resourceAt (now (bytes .entry)) ⌝ }
+{
+    let mut at: usize = 0;
+    while at < bytes.len() {
+        let rest = &bytes[at..];
+        if rest[0] != BarList::TAG {
+            return BarList::NoAnswer;
+        }
+        if rest.len() <= BarList::TYPE {
+            return BarList::Bad;
+        }
+        if rest[BarList::TYPE] == BarList::MEMORY {
+            return memory(rest);
+        }
+        let n = BarList::HEADER + length_of(rest);
+        if rest.len() < n {
+            return BarList::Bad;
+        }
+        at = at + n;
+    }
+    BarList::Bad
 }
 
 fn has_base(base: u64, answer: BarRange) -> bool

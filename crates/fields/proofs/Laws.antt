@@ -107,12 +107,18 @@ put-outside o s off w v k h =
 pub length-put : (o : Order) (s : List ℕ) (off w v : ℕ) → length (putAt o s off w v) ≡ length s
 length-put o s off w v = length-digits s (placeOf o off w) w v
 
+-- a field whose bytes are the same in both is the same number
+pub number-same : (o : Order) (s t : List ℕ) (off w : ℕ) → ((k : ℕ) → off ≤ k → k < off + w → getD s k 0 ≡ getD t k 0)
+    → numberAt o s off w ≡ numberAt o t off w
+number-same o s t off w h =
+    digits-same s t (placeOf o off w) w
+    (λ i l. h (placeOf o off w i) (place-from o off w i l) (place-to o off w i l))
+
 -- a field that no byte of another touches is read as before
 pub number-apart : (o o′ : Order) (s : List ℕ) (off w off′ w′ v : ℕ) → ((k : ℕ) → off ≤ k → k < off + w → off′ ≤ k → k < off′ + w′ → ⊥)
     → numberAt o (putAt o′ s off′ w′ v) off w ≡ numberAt o s off w
 number-apart o o′ s off w off′ w′ v h =
-    digits-same (putAt o′ s off′ w′ v) s (placeOf o off w) w
-    (λ i l. put-outside o′ s off′ w′ v (placeOf o off w i) (h (placeOf o off w i) (place-from o off w i l) (place-to o off w i l)))
+    number-same o (putAt o′ s off′ w′ v) s off w (λ k l m. put-outside o′ s off′ w′ v k (h k l m))
 
 -- where the field lies within the bytes, reading gives its number
 pub field-is : (o : Order) (s : List ℕ) (off w : ℕ) → off + w ≤ length s → fieldAt o s off w ≡ value (numberAt o s off w)
