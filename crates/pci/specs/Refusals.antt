@@ -1,4 +1,4 @@
--- What stops a session: document 01's table, number and values for every case.
+-- What stops a session: document 01's table, number and values for every case; and document 02's 27.
 use mathlib.Core.List.{[], _∷_}
 use Rattle.fields.specs.Outcome.{Outcome, refused}
 use Rattle.pci.specs.declared.Refusal.{Refusal}
@@ -51,3 +51,5 @@ refusal r.Short = refused 21 []
 refusal r.Opcode = refused 22 []
 -- 23 undo of a record wanted on a broken session, or an undo command failed
 refusal r.Undo = refused 23 []
+-- 27 when a memory BAR's descriptor length is below 43, or the list runs out before 0x79 with no whole memory descriptor found (document 02, Req 05)
+refusal r.List = refused 27 []

@@ -73,6 +73,7 @@ pub enum Refusal {
     Short,
     Opcode,
     Undo,
+    List,
 }
 
 impl Refusal {
@@ -104,6 +105,7 @@ impl Refusal {
             Refusal::Short => 21,
             Refusal::Opcode => 22,
             Refusal::Undo => 23,
+            Refusal::List => 27,
         }
     }
 }

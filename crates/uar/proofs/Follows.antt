@@ -5,23 +5,25 @@ use mathlib.Core.List.{List, _∷_}
 use mathlib.Core.Path.{_≡_, refl, ap}
 use native.Mathlib.Omega.{arith}
 use lib.Dec.{eqb}
-use Rattle.fields.specs.Outcome.{pick}
-use Rattle.bars.specs.Bars.{resourceAt}
+use Rattle.fields.specs.Outcome.{value, refused, pick}
+use Rattle.bars.specs.Resource.{Answer, resourceAt}
 use Rattle.bars.specs.Choose.{hasBase, those, rising, isOther, othersFrom}
-use Rattle.bars.specs.Steps.{settledOf, onwardOf, judgedOf, hearsFirst, hearsSecond, stepOf}
+use Rattle.bars.specs.Steps.{pickOf, settledOf, onwardOf, judgedOf, hearsFirst, hearsSecond, stepOf}
 use Rattle.bars.specs.declared.BarRange.{BarRange}
 use Rattle.bars.specs.declared.BarRange.the-variants as b
+use Rattle.bars.specs.declared.How.the-variants as h
 use Rattle.bars.specs.declared.Candidate.{Candidate}
 use Rattle.bars.specs.declared.Asking.{Asking}
 use Rattle.bars.specs.declared.Asking.the-variants as k
 use Rattle.bars.specs.declared.Choice.{Choice}
 use Rattle.bars.specs.declared.Next.{Next}
-use Rattle.pci.specs.Script.{Script}
+use Rattle.pci.specs.Script.{Script, ret}
 use Rattle.pci.specs.Machine as m
 use Rattle.pci.proofs.Cases.{dword-case, list-case}
-use Rattle.uar.specs.Uar.{rangeFrom, other, scan, judging, second, reading, finding}
-use Rattle.uar.specs.Steps.{started, readMove, ledOf, choiceMove, movedOf, nextOf, choiceScript, barAsks, barStep, barScript, BarFollows}
+use Rattle.uar.specs.Uar.{rangeFrom, onList, candidate, other, scan, judging, second, reading, finding}
+use Rattle.uar.specs.Steps.{started, readMove, ledOf, listMove, choiceMove, movedOf, nextOf, choiceScript, barAsks, barStep, barScript, BarFollows}
 use Rattle.uar.specs.declared.Found.{Found}
+use Rattle.uar.specs.declared.Found.the-variants as f
 use Rattle.uar.specs.declared.BarPhase.{BarPhase}
 use Rattle.uar.specs.declared.BarPhase.the-variants as p
 use Rattle.uar.specs.declared.FindBar.{FindBar}
@@ -68,6 +70,12 @@ module _ (s : FindBar) (c : Choice) where
       (pick-left s (hasBase (c .base) (c .first .answer)) _ _ _ _ refl
       (pick-left s (hasBase (c .base) (c .second .answer)) _ _ _ _ refl (onward-left 0)))
 
+-- a list leads where its answer does, or ends the search
+list-left : (s : FindBar) (c : Choice) (k : BarRange → Script Found) → ((r : BarRange) → left s (stepOf c r) ≡ k r)
+    → (a : Answer) → m.rest barAsks barStep barScript (to s (listMove c a)) ≡ onList k a
+list-left s c k h (value r) = h (rangeFrom r)
+list-left s c k h (refused n vs) = refl
+
 abbrev choice : ℕ → Candidate → Candidate → Asking → Choice
 choice base x y a = record { base = base; first = x; second = y; asking = a }
 
@@ -86,22 +94,25 @@ module _ (ds : List ℕ) (base : ℕ) (x y : Candidate) where
   second-left : (r : BarRange) → left (at k.Second) (stepOf (choice base x y k.Second) r) ≡ judging base x (record { index = y .index; answer = r })
   second-left r = judged-left (at k.Second) (hearsSecond (choice base x y k.Second) r)
 
+  other-left : (i : ℕ) (r : BarRange) → left (at (k.Other i)) (stepOf (choice base x y (k.Other i)) r)
+      ≡ pick (hasBase base r) (ret (f.Bar (pickOf (candidate i r) h.Scan))) (scan base (settledOf x y) (othersFrom (x .index) (y .index) (suc i)))
+  other-left i r = pick-left (at (k.Other i)) (hasBase base r) _ _ _ _ refl (onward-left (at (k.Other i)) (choice base x y (k.Other i)) (suc i))
+
   at-choice : (a : Asking) → m.Follows barAsks barStep barScript (at a) (choiceScript (choice base x y a) a)
   at-choice k.First = (
     refl,
     list-case barAsks barStep barScript _ (λ bytes r. to (at k.First) (choiceMove (choice base x y k.First) bytes r)) _
-        (λ bytes. first-left (rangeFrom (resourceAt bytes))) (λ bytes. first-left b.NoAnswer) (λ bytes. refl),
+        (λ bytes. list-left (at k.First) (choice base x y k.First) _ first-left (resourceAt bytes)) (λ bytes. first-left b.NoAnswer) (λ bytes. refl),
   )
   at-choice k.Second = (
     refl,
     list-case barAsks barStep barScript _ (λ bytes r. to (at k.Second) (choiceMove (choice base x y k.Second) bytes r)) _
-        (λ bytes. second-left (rangeFrom (resourceAt bytes))) (λ bytes. second-left b.NoAnswer) (λ bytes. refl),
+        (λ bytes. list-left (at k.Second) (choice base x y k.Second) _ second-left (resourceAt bytes)) (λ bytes. second-left b.NoAnswer) (λ bytes. refl),
   )
   at-choice (k.Other i) = (
     refl,
     list-case barAsks barStep barScript _ (λ bytes r. to (at (k.Other i)) (choiceMove (choice base x y (k.Other i)) bytes r)) _
-        (λ bytes. pick-left (at (k.Other i)) (hasBase base (rangeFrom (resourceAt bytes))) _ _ _ _ refl (onward-left (at (k.Other i)) (choice base x y (k.Other i)) (suc i)))
-        (λ bytes. onward-left (at (k.Other i)) (choice base x y (k.Other i)) (suc i)) (λ bytes. refl),
+        (λ bytes. list-left (at (k.Other i)) (choice base x y (k.Other i)) _ (other-left i) (resourceAt bytes)) (λ bytes. other-left i b.NoAnswer) (λ bytes. refl),
   )
 
 at-phase : (ds : List ℕ) (f : BarPhase) → m.Follows barAsks barStep barScript (state f ds) (barScript (state f ds))

@@ -3,7 +3,7 @@ use Prim.Native.Nat.{ℕ, zero, suc, _+_, _*_}
 use mathlib.Core.List.{List}
 use lib.ListN.{set, replicate}
 use Rattle.fields.specs.Outcome.{Outcome, value, refused}
-use Rattle.bars.specs.Bars.{resourceAt}
+use Rattle.bars.specs.Resource.{Answer as Listed, resourceAt}
 use Rattle.bars.specs.Choose.{othersFrom}
 use Rattle.bars.specs.Steps.{settledOf, stepOf, chooseAt}
 use Rattle.bars.specs.declared.BarRange.the-variants as b
@@ -64,8 +64,13 @@ abbrev pub ledOf : Next → BarMove
 ledOf (n.Ask i c) = v.To c
 ledOf (n.Picked y) = v.End (f.Bar y)
 
+-- a bad list ends the search at once
+abbrev pub listMove : Choice → Listed → BarMove
+listMove c (value r) = ledOf (stepOf c (rangeFrom r))
+listMove c (refused i vs) = v.End f.BadList
+
 abbrev pub choiceMove : Choice → (bytes : List ℕ) → ListReply → BarMove
-choiceMove c bytes l.Got = ledOf (stepOf c (rangeFrom (resourceAt bytes)))
+choiceMove c bytes l.Got = listMove c (resourceAt bytes)
 choiceMove c bytes l.Failed = ledOf (stepOf c b.NoAnswer)
 choiceMove c bytes l.Wrong = v.Stay
 

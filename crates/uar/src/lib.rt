@@ -1,10 +1,11 @@
 // The UAR BAR is found: the six BAR dwords are read, and the index that PCI I/O has for register 2 is chosen.
 ghost use mathlib.Core.Path.{_≡_};
 ghost use Prim.Native.Nat.{_≤_};
-ghost use Rattle.bars.specs.Bars.{resourceAt};
-ghost use Rattle.uar.specs.Uar.{rangeFrom, dwordAt};
-ghost use Rattle.uar.specs.Steps.{started, indexOf, barAsks, readMove, ledOf, choiceMove, moveAt, begins, readOn, movedOf, barStepOf};
+ghost use Rattle.bars.specs.Resource.{resourceAt};
+ghost use Rattle.uar.specs.Uar.{dwordAt};
+ghost use Rattle.uar.specs.Steps.{started, indexOf, barAsks, readMove, ledOf, listMove, choiceMove, moveAt, begins, readOn, movedOf, barStepOf};
 use bars::Asking;
+use bars::BarList;
 use bars::BarRange;
 use bars::Begun;
 use bars::Choice;
@@ -14,10 +15,11 @@ use pci::DwordReply;
 use pci::ListReply;
 use pci::Question;
 
-// The index that was picked, or 4.
+// The index that was picked; 4; or 27, a resource list that is damaged or cut.
 pub enum Found {
     Bar(Pick),
     Refused,
+    BadList,
 }
 
 // The open question: a BAR dword, and how many are left after it; or an index that the choice asks about.
@@ -70,13 +72,6 @@ fn dword_at(n: u8) -> u8
     0
 }
 
-// The range that a resource list gives, or no answer.
-fn ranged(bytes: &[u8]) -> BarRange
-    ensures { λ r. ⌜ r ≡ rangeFrom (resourceAt (now (bytes .entry))) ⌝ }
-{
-    bars::resource(bytes)
-}
-
 // The index that a choice asks about.
 fn index_of(c: Choice) -> u8
     ensures { λ r. ⌜ r ≡ indexOf c ⌝ }
@@ -110,12 +105,23 @@ fn led(next: bars::Next) -> BarMove
     }
 }
 
+// What a resource list says about an index; a bad one ends the search at once, whatever was said before.
+fn listed(c: Choice, bytes: &[u8]) -> BarMove
+    ensures { λ m. ⌜ m ≡ listMove c (resourceAt (now (bytes .entry))) ⌝ }
+{
+    match bars::resource(bytes) {
+        BarList::Range { base, length } => led(bars::step(c, BarRange::Range { base, length })),
+        BarList::NoAnswer => led(bars::step(c, BarRange::NoAnswer)),
+        BarList::Bad => BarMove::End(Found::BadList),
+    }
+}
+
 // What is said about an index, with the resource list beside it.
 fn choice(c: Choice, r: ListReply, bytes: &[u8]) -> BarMove
     ensures { λ m. ⌜ m ≡ choiceMove c (now (bytes .entry)) r ⌝ }
 {
     match r {
-        ListReply::Got => led(bars::step(c, ranged(bytes))),
+        ListReply::Got => listed(c, bytes),
         ListReply::Failed => led(bars::step(c, BarRange::NoAnswer)),
         ListReply::Wrong => BarMove::Stay,
     }
