@@ -10,14 +10,15 @@ use Rattle.bars.specs.declared.Next.the-variants as n
 use Rattle.dma.specs.declared.Block.{Block}
 use Rattle.dma.specs.declared.Cutter.{Cutter}
 use Rattle.dma.specs.declared.Listed.{Listed}
-use Rattle.answers.specs.Bars.{rangeWords, nextWords, begunWords}
+use Rattle.answers.specs.Bars.{listWords, nextWords, begunWords}
 use Rattle.reply.specs.declared.FuncInfo.{FuncInfo}
 use Rattle.answers.specs.Replies.{funcWords}
 use Rattle.answers.specs.Memory.{startedWords, pieceWords, listedWords}
 
-pub length-range : (o : Option (ℕ × ℕ)) → length (rangeWords o) ≡ 3
-length-range (some p) = refl
-length-range none = refl
+pub length-list : (o : Outcome (Option (ℕ × ℕ))) → length (listWords o) ≡ 3
+length-list (value (some p)) = refl
+length-list (value none) = refl
+length-list (refused n vs) = refl
 
 pub length-next : (x : Next) → length (nextWords x) ≡ 16
 length-next (n.Ask i c) = refl

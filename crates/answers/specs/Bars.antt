@@ -26,10 +26,11 @@ use Rattle.bars.specs.declared.Next.the-variants as n
 abbrev pub pairWords : Outcome (ℕ × ℕ) → List ℕ
 pairWords o = numberOf o ∷ valueOr (0, 0) o .0 ∷ valueOr (0, 0) o .1 ∷ []
 
--- whether there is a range; then its base and its length
-abbrev pub rangeWords : Option (ℕ × ℕ) → List ℕ
-rangeWords (some (base, length)) = 1 ∷ base ∷ length ∷ []
-rangeWords none = 0 ∷ 0 ∷ 0 ∷ []
+-- 1 for a range, with its base and its length; 0 for no answer; or a refusal's number
+abbrev pub listWords : Outcome (Option (ℕ × ℕ)) → List ℕ
+listWords (value (some (base, length))) = 1 ∷ base ∷ length ∷ []
+listWords (value none) = 0 ∷ 0 ∷ 0 ∷ []
+listWords (refused n vs) = n ∷ 0 ∷ 0 ∷ []
 
 abbrev pub rangeFrom : (known : Bool) (base length : ℕ) → BarRange
 rangeFrom true base length = b.Range base length

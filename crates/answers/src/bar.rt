@@ -1,6 +1,8 @@
-// BARs: the address in one, its candidates, a resource descriptor, and the choice of an index, begun and then one answer a call.
+// BARs: the address in one, its candidates, a resource list, and the choice of an index, begun and
+// then one answer a call.
 use bars::Address;
 use bars::Asking;
+use bars::BarList;
 use bars::BarRange;
 use bars::Begun;
 use bars::Candidate;
@@ -12,10 +14,12 @@ use bars::Pick;
 use bars::Size;
 ghost use mathlib.Core.Path.{_≡_};
 ghost use Prim.Native.Nat.{_*_, _<_};
-ghost use Rattle.bars.specs.Bars.{address, indices, range};
+ghost use Rattle.bars.specs.Bars.{address, indices};
+ghost use Rattle.bars.specs.Resource.{listed};
 ghost use Rattle.bars.specs.Steps.{begun};
 ghost use Rattle.answers.specs.Words.{answer, numberWords};
-ghost use Rattle.answers.specs.Bars.{pairWords, rangeWords, rangeFrom, knownIn, baseIn, lengthIn, tagOf, indexOf, sizeKnown, sizeIn, howNumber};
+ghost use Rattle.answers.specs.Bars.{pairWords, listWords, rangeFrom, knownIn, baseIn, lengthIn};
+ghost use Rattle.answers.specs.Bars.{tagOf, indexOf, sizeKnown, sizeIn, howNumber};
 ghost use Rattle.answers.specs.Bars.{askWords, pickWords, nextWords, begunWords, wordAt, flag, askingFrom, candidateIn, choiceIn};
 
 pub fn address_words(a: Address) -> [u64; 2]
@@ -36,12 +40,13 @@ pub fn indices_words(i: Indices) -> [u64; 3]
     }
 }
 
-pub fn range_words(r: BarRange) -> [u64; 3]
-    ensures { λ w. ⌜ w ≡ rangeWords (range r) ⌝ }
+pub fn list_words(l: BarList) -> [u64; 3]
+    ensures { λ w. ⌜ w ≡ listWords (listed l) ⌝ }
 {
-    match r {
-        BarRange::Range { base, length } => [1, base, length],
-        BarRange::NoAnswer => [0, 0, 0],
+    match l {
+        BarList::Range { base, length } => [1, base, length],
+        BarList::NoAnswer => [0, 0, 0],
+        BarList::Bad => [27, 0, 0],
     }
 }
 

@@ -1,5 +1,6 @@
--- The firmware's resource list of a BAR, from its first byte to the descriptor that answers. Document 02, Req 05; ACPI, QWORD address
--- space descriptor and end tag; UEFI, EFI_PCI_IO_PROTOCOL.GetBarAttributes.
+-- The firmware's resource list of a BAR, from its first byte to the descriptor that answers.
+-- Document 02, Req 05; ACPI, QWORD address space descriptor and end tag; UEFI, PCI I/O Protocol,
+-- GetBarAttributes.
 use Prim.Native.Nat.{ℕ, zero, suc, _+_, _%_, _^_, _≤_}
 use mathlib.Core.Bool.{_&&_, not}
 use mathlib.Core.List.{List, [], _∷_}
@@ -20,7 +21,8 @@ Answer = Outcome (Option (ℕ × ℕ))
 abbrev pub noAnswer : Answer
 noAnswer = value none
 
--- "27 when a memory BAR's descriptor length is below 43, or the list runs out before 0x79 with no whole memory descriptor found"
+-- "27 when a memory BAR's descriptor length is below 43, or the list runs out before 0x79 with no
+-- whole memory descriptor found"
 abbrev pub bad : Answer
 bad = refused 27 []
 
@@ -28,8 +30,9 @@ bad = refused 27 []
 abbrev pub lengthIn : List ℕ → ℕ
 lengthIn d = numberAt Little d 1 2
 
--- "minimum at 14, translation offset at 30, length at 38"; "The base for matching is the minimum plus the translation offset, modulo 2^64."
--- UEFI: the offset is what is added to the starting address of a BAR to make it a PCI address.
+-- "minimum at 14, translation offset at 30, length at 38"; "The base for matching is the minimum plus
+-- the translation offset, modulo 2^64." UEFI: the offset is what is added to the starting address of
+-- a BAR to make it a PCI address.
 abbrev pub rangeIn : List ℕ → ℕ × ℕ
 rangeIn d = ((numberAt Little d 14 8 + numberAt Little d 30 8) % 2 ^ 64, numberAt Little d 38 8)
 
@@ -37,15 +40,18 @@ rangeIn d = ((numberAt Little d 14 8 + numberAt Little d 30 8) % 2 ^ 64, numberA
 abbrev pub memoryIn : List ℕ → Answer
 memoryIn d = pick (leb 43 (lengthIn d) && leb (3 + lengthIn d) (length d)) (value (some (rangeIn d))) bad
 
--- What the bytes from one descriptor on come to, where `on` is what those behind that descriptor come to.
--- "another tag there, or 0x79 before any memory one, is no answer"; where the type is not there any more, the list has run out; "the first memory
--- one gives the BAR"; "Descriptors of type other than 0 are passed over"
+-- What the bytes from one descriptor on come to, where `on` is what those behind it come to.
+-- "another tag there, or 0x79 before any memory one, is no answer"; where the type at 3 is cut off,
+-- the list has run out; "the first memory one gives the BAR"; "Descriptors of type other than 0 are
+-- passed over"
 abbrev pub entryOf : List ℕ → (on : Answer) → Answer
 entryOf d on =
-    pick (not (eqb (getD d 0 0) 0x8a)) noAnswer (pick (leb (length d) 3) bad (pick (eqb (getD d 3 0) 0) (memoryIn d) on))
+    pick (not (eqb (getD d 0 0) 0x8a)) noAnswer
+    (pick (leb (length d) 3) bad
+    (pick (eqb (getD d 3 0) 0) (memoryIn d) on))
 
--- "Walk the list": n more bytes belong to a descriptor that is passed over; "by their length, counted after the three header bytes", of which
--- the tag is the first
+-- "Walk the list": n more bytes belong to a descriptor that is passed over "by [its] length, counted
+-- after the three header bytes", of which the tag is the first
 unfoldable pub walk : (n : ℕ) → List ℕ → Answer
 walk n [] = bad
 walk (suc n) (x ∷ xs) = walk n xs
@@ -60,14 +66,16 @@ listed (l.Range base length) = value (some (base, length))
 listed l.NoAnswer = noAnswer
 listed l.Bad = bad
 
--- Document 01, the Rust's rule, kept for the list of one descriptor: "A resource of 46 bytes or more starting with 0x8a gives base at 14 and
--- length at 38 (little-endian 64 bits); anything else is no answer."
+-- Document 01, the Rust's rule, which still holds of a list of one memory range: "A resource of 46
+-- bytes or more starting with 0x8a gives base at 14 and length at 38 (little-endian 64 bits); anything
+-- else is no answer."
 abbrev pub firstRule : List ℕ → Option (ℕ × ℕ)
 firstRule bytes =
     pick (leb 46 (length bytes) && eqb (getD bytes 0 0) 0x8a)
     (some (numberAt Little bytes 14 8, numberAt Little bytes 38 8)) none
 
--- the list begins with a whole memory descriptor that document 01's rule reads alike: its length 43 or more, its offset 0
+-- the list begins with a whole memory descriptor that this rule reads alike: "its offset 0 and
+-- descriptor length 43 or more"
 pub record Leads (s : List ℕ) : Type 0 where
   pub tag : getD s 0 0 ≡ 0x8a
   pub memory : getD s 3 0 ≡ 0

@@ -1,5 +1,5 @@
-// PCI base address registers: the address in one, the firmware's resource list of one, the two indices that PCI I/O may know it by, and
-// the choice between them as steps by value.
+// PCI base address registers: the address in one, the firmware's resource list of one, the two indices
+// that PCI I/O may know it by, and the choice between them as steps by value.
 ghost use mathlib.Core.Path.{_≡_};
 ghost use Prim.Native.Nat.{_≤_, _<_};
 ghost use lib.ListN.{length};
@@ -41,7 +41,8 @@ pub enum BarRange {
     NoAnswer,
 }
 
-// What a firmware's resource list says of a BAR: its range, no answer, or 27 for a list that is damaged or cut.
+// What a firmware's resource list says of a BAR: its range, no answer, or 27 for a list that is
+// damaged or cut.
 pub enum BarList {
     Range { base: u64, length: u64 },
     NoAnswer,
@@ -49,7 +50,8 @@ pub enum BarList {
 }
 
 impl BarList {
-    // A QWORD address space descriptor: its tag, the bytes of its header, where its type stands, and the type of a memory range.
+    // A QWORD address space descriptor: its tag, the bytes of its header, where its type stands, and
+    // the type of a memory range.
     pub const TAG: u8 = 0x8a;
 
     pub const HEADER: usize = 3;
@@ -244,7 +246,8 @@ fn memory(descriptor: &[u8]) -> BarList
     }
 }
 
-// Walks a resource list to the first memory descriptor. The end tag and an unknown tag are no answer; what follows is not looked at.
+// Walks a resource list to the first memory descriptor. The end tag and an unknown tag are no answer;
+// what follows is not looked at.
 pub fn resource(bytes: &[u8]) -> BarList
     ensures { λ r. ⌜ listed r ≡ resourceAt (now (bytes .entry)) ⌝ }
 {

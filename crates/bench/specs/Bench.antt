@@ -1,14 +1,17 @@
--- The bench values of document 01, and the counts of comparisons of document 02, Req 04, as one table. The theorem `bench-holds` of proofs/ says
--- that the definitions give each of them.
+-- The bench values of document 01, and of document 02 the counts of comparisons (Req 04) and resource
+-- lists (Req 05), as one table. The theorem `bench-holds` of proofs/ says that the definitions give
+-- each of them.
 use Prim.Native.Nat.{ℕ, _+_, _*_, _^_}
-use mathlib.Core.List.{List, [], _∷_}
+use mathlib.Core.List.{List, [], _∷_, _++_}
+use mathlib.Core.Option.{Option, none, some}
 use mathlib.Core.Path.{_≡_}
-use lib.ListN.{length, set, replicate}
+use lib.ListN.{length, set, replicate, take}
 use Rattle.fields.specs.Fields.{putAt}
 use Rattle.fields.specs.Outcome.{Outcome, value, refused, valueOr}
-use Rattle.fields.specs.declared.Order.the-variants.{Big}
+use Rattle.fields.specs.declared.Order.the-variants.{Big, Little}
 use Rattle.bars.specs.declared.Size.the-variants.{Unknown}
 use Rattle.bars.specs.Bars.{baseAt, candidatesAt}
+use Rattle.bars.specs.Resource.{resourceAt}
 use Rattle.dma.specs.declared.Virt.{Virt}
 use Rattle.dma.specs.declared.Virt.the-variants.{Absent, At}
 use Rattle.dma.specs.declared.Block.{Block}
@@ -100,19 +103,50 @@ allOnes = be64 (entriesFrom (set (set (replicate 168 0) 0x37 1) 0x4b 12) 0x80 (r
 abbrev ofPages : List ℕ → Outcome Layout
 ofPages pages = layoutOf pages (replicate 11 4096) (2 ^ 32)
 
--- a bench value: a reply with what its listing comes to; a layout with its comparisons; a range of `size` bytes with its blocks and the number of mailboxes that carry them; BAR dwords
--- and a register with its base and its two candidates
+-- a QWORD address space descriptor of 46 bytes: length field, type (0 memory, 1 I/O), minimum,
+-- translation offset; a range of 8 MiB
+abbrev le64 : List ℕ → (off v : ℕ) → List ℕ
+le64 s off v = putAt Little s off 8 v
+
+abbrev descriptor : (long type minimum offset : ℕ) → List ℕ
+descriptor long type minimum offset =
+    le64 (le64 (le64 (0x8a ∷ long ∷ 0 ∷ type ∷ replicate 42 0) 14 minimum) 30 offset) 38 0x800000
+
+abbrev memory : List ℕ
+memory = descriptor 43 0 0xe0000000 0
+
+abbrev io : List ℕ
+io = descriptor 43 1 0xc000 0
+
+abbrev end : List ℕ
+end = 0x79 ∷ 0 ∷ []
+
+-- what a list comes to: the BAR at a base; no answer; 27
+abbrev barAt : ℕ → Outcome (Option (ℕ × ℕ))
+barAt base = value (some (base, 0x800000))
+
+abbrev noAnswer : Outcome (Option (ℕ × ℕ))
+noAnswer = value none
+
+abbrev bad : Outcome (Option (ℕ × ℕ))
+bad = refused 27 []
+
+-- a bench value: a reply with what its listing comes to; a layout with its comparisons; a range of
+-- `size` bytes with its blocks and the number of mailboxes that carry them; BAR dwords and a register
+-- with its base and its two candidates; a resource list with what it comes to
 pub data Case : Type 0 where
   reply : List ℕ → Outcome Listing → Case
   compared : Outcome Layout → (comparisons : ℕ) → Case
   blocks : Virt → (phys size : ℕ) → List Block → (boxes : ℕ) → Case
   bar : (regs : List ℕ) → (reg base first second : ℕ) → Case
+  list : List ℕ → Outcome (Option (ℕ × ℕ)) → Case
 
 abbrev pub Holds : Case → Type 0
 Holds (reply s o) = listingOf s ≡ o
 Holds (compared o m) = valueOr noLayout o .comparisons ≡ m
 Holds (blocks v p n bs m) = (blocksOf 63 v p n ≡ bs) × (length (mailboxes 256 bs) ≡ m)
 Holds (bar regs reg b i j) = (baseAt regs reg ≡ value b) × (candidatesAt regs reg ≡ value (i, j))
+Holds (list s o) = resourceAt s ≡ o
 
 abbrev block : (virt phys log : ℕ) → Block
 block v p e = record { virt = v; phys = p; log = e }
@@ -153,4 +187,26 @@ bench =
     ∷ compared (ofPages (set (replicate 11 1) 10 2)) 19
     ∷ compared (layoutFor allOnes) 26
     ∷ compared (layoutFor (be64 entriesL 0xa0 0x100120fff)) 0
+    -- Req 05: one memory descriptor, with the end tag and without; an I/O range ahead of it
+    ∷ list (memory ++ end) (barAt 0xe0000000)
+    ∷ list memory (barAt 0xe0000000)
+    ∷ list (io ++ (memory ++ end)) (barAt 0xe0000000)
+    -- an offset of 2^32; one that wraps
+    ∷ list (descriptor 43 0 0xe0000000 0x100000000 ++ end) (barAt 0x1e0000000)
+    ∷ list (descriptor 43 0 0xf0000000 0xfffffffff0000000 ++ end) (barAt 0xe0000000)
+    -- the end tag before any memory descriptor; an unknown tag; length 0: the type is the byte behind
+    ∷ list end noAnswer
+    ∷ list (io ++ end) noAnswer
+    ∷ list (set memory 0 0x87) noAnswer
+    ∷ list (0x8a ∷ 0 ∷ 0 ∷ end) noAnswer
+    -- a list that runs out; a memory descriptor that is too short, or not whole
+    ∷ list io bad
+    ∷ list [] bad
+    ∷ list (0x8a ∷ []) bad
+    ∷ list (0x8a ∷ 0x2b ∷ 0 ∷ []) bad
+    ∷ list (descriptor 42 0 0xe0000000 0) bad
+    ∷ list (take 45 memory) bad
+    ∷ list (0x8a ∷ 0 ∷ 0 ∷ 0 ∷ end) bad
+    -- two memory descriptors: the first
+    ∷ list (memory ++ (descriptor 43 0 0xd0000000 0 ++ end)) (barAt 0xe0000000)
     ∷ []

@@ -327,6 +327,7 @@ module _ (Q : Type 0) where
   bar-in : (s : Session) → In s → (y : Found) (top : Top) → After (n.barPlan s y top)
   bar-in s h (u.Bar y) top = h
   bar-in s h u.Refused top = h
+  bar-in s h u.BadList top = h
 
   in-in : (s : Session) → In s → (y : Made) (top : Top) → After (n.inboxPlan s y top)
   in-in s h (m.Ready y) top = h

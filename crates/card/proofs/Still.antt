@@ -9,13 +9,15 @@ use mathlib.Core.Path.{_≡_, _∙_}
 use lib.Dec.{eqb}
 use lib.ListN.{set, replicate}
 use borrow.Author.Tests.{eq-eqb}
-use Rattle.fields.specs.Outcome.{pick}
+use Rattle.fields.specs.Outcome.{value, refused, pick}
 use Rattle.pci.specs.Script.{Script, ret, ask, Ask, Reply, Bus, good, failed, configRead16, configRead32, configWrite16, configWrite32, read, write, attributes, resource, stall, allocate, mapped, unmap, free, fence}
 use Rattle.bars.specs.Bars.{baseOf, countOf}
 use Rattle.bars.specs.Choose.{hasBase, othersFrom}
 use Rattle.bars.specs.Steps.{settledOf}
 use Rattle.bars.specs.declared.Pick.{Pick}
 use Rattle.bars.specs.declared.Candidate.{Candidate}
+use Rattle.bars.specs.Resource.{Answer as Listed, resourceAt}
+use Rattle.bars.specs.declared.BarRange.{BarRange}
 use Rattle.bars.specs.declared.BarRange.the-variants as b
 use Rattle.tasks.specs.Attributes.{orRefused, supporting, attributing}
 use Rattle.tasks.specs.declared.Attributes.{Attributes}
@@ -104,9 +106,17 @@ command-still failed = (tt, owner-still)
 pub claiming-still : Stills claiming
 claiming-still = (tt, command-still)
 
--- THE UAR BAR
+-- THE UAR BAR: a bad list asks nothing more
+list-still : (k : BarRange → Script Found) → ((a : BarRange) → Stills (k a)) → (x : Listed) → Stills (u.onList k x)
+list-still k h (value r) = h (u.rangeFrom r)
+list-still k h (refused n vs) = tt
+
+told-still : (k : BarRange → Script Found) → ((a : BarRange) → Stills (k a)) → (r : Bus (List ℕ)) → Stills (u.onTold k r)
+told-still k h (good bytes) = list-still k h (resourceAt bytes)
+told-still k h failed = h b.NoAnswer
+
 other-still : (base i : ℕ) (next : Script Found) → Stills next → Stills (u.other base i next)
-other-still base i next h = (tt, λ r. stills-pick (hasBase base (u.told r)) _ _ tt h)
+other-still base i next h = (tt, told-still _ (λ a. stills-pick (hasBase base a) _ _ tt h))
 
 scan-still : (base : ℕ) (p : Pick) (is : List ℕ) → Stills (u.scan base p is)
 unfolding u.scan
@@ -120,8 +130,11 @@ judging-still base x y =
     (stills-pick (hasBase base (y .answer)) _ _ tt (scan-still base (settledOf x y) (othersFrom (x .index) (y .index) 0))))
 
 choosing-still : (base i : ℕ) (y : Candidate) → Stills (u.choosing base i y)
-choosing-still base i y =
-    (tt, λ r. stills-pick (eqb i (y .index)) _ _ (judging-still base (u.candidate i (u.told r)) y) (tt, λ s. judging-still base (u.candidate i (u.told r)) (u.candidate (y .index) (u.told s))))
+choosing-still base i y = (
+  tt,
+  told-still _ (λ a. stills-pick (eqb i (y .index)) _ _ (judging-still base (u.candidate i a) y)
+      (tt, told-still _ (λ c. judging-still base (u.candidate i a) (u.candidate (y .index) c)))),
+)
 
 or-found : (f : ℕ → Script Found) → ((v : ℕ) → Stills (f v)) → (r : Bus ℕ) → Stills (u.orRefused f r)
 or-found f h (good v) = h v

@@ -18,6 +18,7 @@ use Rattle.dma.specs.Buffers.{pagesFor}
 use Rattle.dma.specs.Pages.{table}
 use Rattle.dma.specs.declared.Buffer.{Buffer}
 use Rattle.pci.specs.Script.{Spot}
+use Rattle.pci.specs.declared.Refusal.{Refusal}
 use Rattle.pci.specs.declared.Refusal.the-variants as x
 use Rattle.reply.specs.Capability.{capabilityOf, devCapOf}
 use Rattle.reply.specs.Replies.{queryFwOf, fwHeld, queryPortOf, queryFuncOf}
@@ -442,6 +443,13 @@ module _ (base : ℕ → Option Hold) (P : World → Rest → Type 1) (k₀ : Ho
           safe-outbox s x n j v fair (z .0) (z .1) (z .4 .0 ∙ ap (λ (t : Option Spot). orElse t (spotOf x)) p)
           (z .4 .1 ∙ ap (λ (t : Option Spot). second t (w .host .outbox) (spotOf x)) p ∙ o₁) (below x (z .2) (z .3))
 
+  -- no BAR was found: nothing is torn down
+  safe-refused : (s : ℕ) (n : Info) (y : Refusal) (h : Here) (w : World) → Fair h → Owns base [] (w .host) → Quiet Nothing (w .card)
+      → SafeCourse w (parted n (f.By y) c.Clean (start s) h) P
+  safe-refused s n y h w fair i k =
+      safe-parted n (f.By y) P (w .host) (Quiet Nothing) (quiet-stable Nothing) (λ a b d t. t) c.Clean (start s)
+      (λ v a b. back n (f.By y) c.Clean (start s) v clean-differs (subst (Owns base []) (sym a) i) (quiet-empty (v .card) b)) h w fair refl k
+
   safe-find : (s : ℕ) (n : Info) (h : Here) (w : World) → Fair h → Owns base [] (w .host) → Quiet Nothing (w .card) → w .host .inbox ≡ none → w .host .outbox ≡ none → SafeCourse w (findUar n (start s) h) P
   unfolding findUar
   safe-find s n h w q i k p o₁ =
@@ -451,9 +459,8 @@ module _ (base : ℕ → Option Hold) (P : World → Rest → Type 1) (k₀ : Ho
       at : (y : Found) (v : World) (j : Here) → Fair j → (v .host ≡ w .host) × Quiet Nothing (v .card) → SafeCourse v (onFound y n (start s) j) P
       at (u.Bar y) v j fair z =
           safe-inbox s (withUar n y) j v fair (subst (Owns base []) (sym (z .0)) i) (z .1) (ap (λ (l : Host). l .inbox) (z .0) ∙ p) (ap (λ (l : Host). l .outbox) (z .0) ∙ o₁)
-      at u.Refused v j fair z =
-          safe-parted n (f.By x.Bar) P (v .host) (Quiet Nothing) (quiet-stable Nothing) (λ a b d t. t) c.Clean (start s)
-          (λ y a b. back n (f.By x.Bar) c.Clean (start s) y clean-differs (subst (Owns base []) (sym (a ∙ z .0)) i) (quiet-empty (y .card) b)) j v fair refl (z .1)
+      at u.Refused v j fair z = safe-refused s n x.Bar j v fair (subst (Owns base []) (sym (z .0)) i) (z .1)
+      at u.BadList v j fair z = safe-refused s n x.List j v fair (subst (Owns base []) (sym (z .0)) i) (z .1)
 
   -- whatever the card held or ran is gone by then
   safe-first : (s : ℕ) (n : Info) (h : Here) (w : World) → Fair h → w .host ≡ k₀ → Owns base [] (w .host) → w .host .inbox ≡ none → w .host .outbox ≡ none → SafeCourse w (firstReset n (start s) h) P

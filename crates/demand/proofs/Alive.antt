@@ -434,6 +434,7 @@ module _ (i : List ℕ) (len : length i ≡ 4096) where
   bar : (s : Session) (y : Found) (top : Top) → Begun (n.barPlan s y top)
   bar s (u.Bar y) top = refl
   bar s u.Refused top = refl
+  bar s u.BadList top = refl
 
   in-made : (s : Session) (y : Made) (top : Top) → Begun (n.inboxPlan s y top)
   in-made s (m.Ready y) top = refl

@@ -597,6 +597,7 @@ module _ (C P D : Type 0) (T : Task → Type 0) where
     bar-suited : (s : Session) (y : Found) (top : Top) → Lawful (n.barPlan s y top)
     bar-suited s (u.Bar y) top = on _ tt
     bar-suited s u.Refused top = (op .1, tt)
+    bar-suited s u.BadList top = (op .1, tt)
 
     in-suited : (s : Session) (y : Made) (top : Top) → Lawful (n.inboxPlan s y top)
     in-suited s (m.Ready y) top = on _ tt

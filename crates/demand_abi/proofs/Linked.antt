@@ -79,6 +79,7 @@ number-some x.Wrong = refl
 number-some x.Short = refl
 number-some x.Opcode = refl
 number-some x.Undo = refl
+number-some x.List = refl
 
 not-zero : (n : ℕ) → eqb n 0 ≡ false → n ≡ 0 → ⊥
 not-zero n h e = let z : _≡_ {A = ℕ} 0 1 = ap (λ (b : Bool). pick b 1 0) (sym h ∙ ap (λ m. eqb m 0) e) in omega arith

@@ -1,13 +1,15 @@
-// BARs: the address in one, its candidates, a resource descriptor, and the choice of an index, begun and then one answer a call.
+// BARs: the address in one, its candidates, a resource list, and the choice of an index, begun and
+// then one answer a call.
 use answers::words;
 ghost use mathlib.Core.Path.{_≡_};
 ghost use mathlib.Core.List.{[], _∷_};
 ghost use Prim.Native.Nat.{_<_};
 ghost use Rattle.fields.specs.Outcome.{pick};
-ghost use Rattle.bars.specs.Bars.{baseAt, candidatesAt, resourceAt};
+ghost use Rattle.bars.specs.Bars.{baseAt, candidatesAt};
+ghost use Rattle.bars.specs.Resource.{resourceAt};
 ghost use Rattle.bars.specs.Steps.{chooseAt, stepOf};
 ghost use Rattle.answers.specs.Words.{said, answer, holds, numberWords};
-ghost use Rattle.answers.specs.Bars.{pairWords, rangeWords, rangeFrom};
+ghost use Rattle.answers.specs.Bars.{pairWords, listWords, rangeFrom};
 ghost use Rattle.answers.specs.Bars.{nextWords, begunWords, choiceIn};
 
 #[no_mangle]
@@ -49,9 +51,9 @@ pub extern "C" fn leaf_candidates(
 #[no_mangle]
 pub extern "C" fn leaf_resource(bytes: &[u8], out: &mut [u8]) -> u32
     ensures { λ r. ⌜ r ≡ said 3 (now (out .entry)) ⌝ }
-    ensures { λ _. ⌜ now (out .exit) ≡ answer 3 (now (out .entry)) (rangeWords (resourceAt (now (bytes .entry)))) ⌝ }
+    ensures { λ _. ⌜ now (out .exit) ≡ answer 3 (now (out .entry)) (listWords (resourceAt (now (bytes .entry)))) ⌝ }
 {
-    let w = answers::bar::range_words(bars::resource(bytes));
+    let w = answers::bar::list_words(bars::resource(bytes));
     words::give(out, &w)
 }
 

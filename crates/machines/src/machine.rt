@@ -230,6 +230,7 @@ fn bar_end(e: Found) -> End {
     match e {
         Found::Bar(p) => picked(p),
         Found::Refused => end_with(4, 0, 0, 0, 0),
+        Found::BadList => end_with(27, 0, 0, 0, 0),
     }
 }
 

@@ -323,6 +323,7 @@ bar-leads : (s : Session) (y : Found) (h : Here) → leads (barPlan s y (h .undo
 unfolding makeInbox prepareCourse
 bar-leads s (u.Bar y) h = run-turned inbox (allocating 1) (λ v. e.Made v) (afterPrepare p.Inbox (informs s (withUar (s .info) y))) h
 bar-leads s u.Refused h = part-leads s x.Bar (s .books) h
+bar-leads s u.BadList h = part-leads s x.List (s .books) h
 
 reset-leads : (s : Session) (y : End) (h : Here) → leads (resetPlan s (resetIn y) (h .undo)) h ≡ afterPrepare p.Reset s y h
 unfolding findUar prepareCourse

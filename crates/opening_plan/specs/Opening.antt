@@ -170,6 +170,8 @@ makeInbox n b h =
 abbrev pub onFound : Found → Info → Books → Here → Course Rest
 onFound (u.Bar p) n b h = makeInbox (withUar n p) b h
 onFound u.Refused n b h = parted n (f.By x.Bar) c.Clean b h
+-- 27 "stands where 4 does"
+onFound u.BadList n b h = parted n (f.By x.List) c.Clean b h
 
 unfoldable pub findUar : Info → Books → Here → Course Rest
 findUar n b h = task finding (λ y j. onFound y n b j) h

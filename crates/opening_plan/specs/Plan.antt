@@ -270,6 +270,7 @@ resetPlan s y top = pick (isGood y) (planned (findsOf s) w.Nothing (top .count))
 abbrev pub barPlan : Session → Found → Top → Planned
 barPlan s (u.Bar y) top = boxPlan (informs s (withUar (s .info) y)) p.Inbox top
 barPlan s u.Refused top = partPlan s x.Bar (s .books) top
+barPlan s u.BadList top = partPlan s x.List (s .books) top
 
 abbrev pub inboxPlan : Session → Made → Top → Planned
 inboxPlan s (m.Ready y) top = boxPlan (bookkeeps s (withInbox (s .books) y)) p.Outbox top

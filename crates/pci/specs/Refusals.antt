@@ -51,5 +51,6 @@ refusal r.Short = refused 21 []
 refusal r.Opcode = refused 22 []
 -- 23 undo of a record wanted on a broken session, or an undo command failed
 refusal r.Undo = refused 23 []
--- 27 when a memory BAR's descriptor length is below 43, or the list runs out before 0x79 with no whole memory descriptor found (document 02, Req 05)
+-- 27 when a memory BAR's descriptor length is below 43, or the list runs out before 0x79 with no whole
+-- memory descriptor found (document 02, Req 05)
 refusal r.List = refused 27 []

@@ -137,6 +137,7 @@ fn found(s: Session, y: Found, top: Top) -> Planned
     match y {
         Found::Bar(uar) => box_plan(s.with_info(Info { uar, ..info }), Prepare::Inbox, top),
         Found::Refused => part(s, Refusal::Bar, books, top),
+        Found::BadList => part(s, Refusal::List, books, top),
     }
 }
 

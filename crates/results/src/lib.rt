@@ -44,6 +44,7 @@ fn values(why: Refusal) -> [u64; 2]
         Refusal::Short => [0, 0],
         Refusal::Opcode => [0, 0],
         Refusal::Undo => [0, 0],
+        Refusal::List => [0, 0],
     }
 }
 

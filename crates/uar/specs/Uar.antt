@@ -1,5 +1,6 @@
--- The UAR BAR is found, as a script. The Rust's `find_bar`: the six BAR dwords, then the choice. Document 01: "4 BAR dword unreadable, or
--- register above 5"; document 02, Req 05: 27 for a resource list that is damaged or cut.
+-- The UAR BAR is found, as a script. The Rust's `find_bar`: the six BAR dwords, then the choice.
+-- Document 01: "4 BAR dword unreadable, or register above 5"; document 02, Req 05: 27 for a resource
+-- list that is damaged or cut.
 use Prim.Native.Nat.{ℕ, zero, suc, _+_, _-_, _*_}
 use mathlib.Core.List.{List, [], _∷_}
 use mathlib.Core.Option.{Option, some, none}
@@ -29,7 +30,8 @@ abbrev pub rangeFrom : Option (ℕ × ℕ) → BarRange
 rangeFrom (some r) = b.Range (r .0) (r .1)
 rangeFrom none = b.NoAnswer
 
--- "27 .. stands where 4 does": a bad list ends the search, whichever index was asked; "A failed resource call .. is no answer."
+-- 27 "stands where 4 does": a bad list ends the search, whichever index was asked; "A failed resource
+-- call .. is no answer."
 abbrev pub onList : (BarRange → Script Found) → Answer → Script Found
 onList k (value r) = k (rangeFrom r)
 onList k (refused n vs) = ret f.BadList
@@ -43,7 +45,8 @@ candidate i a = record { index = i; answer = a }
 
 -- an index that is no candidate wins if its base matches
 abbrev pub other : (base index : ℕ) → (next : Script Found) → Script Found
-other base i next = ask (resource i) (onTold (λ a. pick (hasBase base a) (ret (f.Bar (pickOf (candidate i a) h.Scan))) next))
+other base i next =
+    ask (resource i) (onTold (λ a. pick (hasBase base a) (ret (f.Bar (pickOf (candidate i a) h.Scan))) next))
 
 -- "then the other indices 0 to 5 in rising order"; where none has the base, the candidates settle it
 unfoldable pub scan : (base : ℕ) → (settled : Pick) → List ℕ → Script Found

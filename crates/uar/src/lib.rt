@@ -3,7 +3,8 @@ ghost use mathlib.Core.Path.{_≡_};
 ghost use Prim.Native.Nat.{_≤_};
 ghost use Rattle.bars.specs.Resource.{resourceAt};
 ghost use Rattle.uar.specs.Uar.{dwordAt};
-ghost use Rattle.uar.specs.Steps.{started, indexOf, barAsks, readMove, ledOf, listMove, choiceMove, moveAt, begins, readOn, movedOf, barStepOf};
+ghost use Rattle.uar.specs.Steps.{started, indexOf, barAsks, readMove, ledOf, listMove, choiceMove};
+ghost use Rattle.uar.specs.Steps.{moveAt, begins, readOn, movedOf, barStepOf};
 use bars::Asking;
 use bars::BarList;
 use bars::BarRange;
@@ -105,7 +106,8 @@ fn led(next: bars::Next) -> BarMove
     }
 }
 
-// What a resource list says about an index; a bad one ends the search at once, whatever was said before.
+// What a resource list says about an index; a bad one ends the search at once, whatever was said
+// before.
 fn listed(c: Choice, bytes: &[u8]) -> BarMove
     ensures { λ m. ⌜ m ≡ listMove c (resourceAt (now (bytes .entry))) ⌝ }
 {

@@ -47,6 +47,7 @@ refusal-back rv.Wrong f = refl
 refusal-back rv.Short f = refl
 refusal-back rv.Opcode f = refl
 refusal-back rv.Undo f = refl
+refusal-back rv.List f = refl
 
 pub refusal-small : (v : Refusal) → RefusalFits v → Words (refusalWords v)
 unfolding Words
@@ -73,6 +74,7 @@ refusal-small rv.Wrong f = (lit< tt, (lit< tt, (lit< tt, tt)))
 refusal-small rv.Short f = (lit< tt, (lit< tt, (lit< tt, tt)))
 refusal-small rv.Opcode f = (lit< tt, (lit< tt, (lit< tt, tt)))
 refusal-small rv.Undo f = (lit< tt, (lit< tt, (lit< tt, tt)))
+refusal-small rv.List f = (lit< tt, (lit< tt, (lit< tt, tt)))
 
 pub failure-back : (v : Failure) → FailureFits v → failureOf (at (failureWords v) 0) (at (failureWords v) 1) (at (failureWords v) 2) (at (failureWords v) 3) ≡ v
 failure-back fv.Nothing f = refl

@@ -47,6 +47,7 @@ refusal-typed refusal.Wrong vs h = tt
 refusal-typed refusal.Short vs h = tt
 refusal-typed refusal.Opcode vs h = tt
 refusal-typed refusal.Undo vs h = tt
+refusal-typed refusal.List vs h = tt
 
 pub failure-typed : (v : Failure) (vs : List Val) → Is failure-row v vs → FailureFits v
 failure-typed failure.Nothing vs h = tt

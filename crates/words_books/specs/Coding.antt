@@ -18,7 +18,7 @@ use Rattle.session.specs.declared.Held.{Held}
 use Rattle.session.specs.declared.Wire.{Wire}
 use Rattle.words_books.specs.declared.Ledger.{Ledger}
 
--- a refusal: its number, then its values
+-- a refusal: its number less 1, then its values
 abbrev pub refusalWords : Refusal → List ℕ
 refusalWords rv.Attributes = 0 ∷ 0 ∷ 0 ∷ []
 refusalWords rv.Owner = 1 ∷ 0 ∷ 0 ∷ []
@@ -43,6 +43,7 @@ refusalWords rv.Wrong = 19 ∷ 0 ∷ 0 ∷ []
 refusalWords rv.Short = 20 ∷ 0 ∷ 0 ∷ []
 refusalWords rv.Opcode = 21 ∷ 0 ∷ 0 ∷ []
 refusalWords rv.Undo = 22 ∷ 0 ∷ 0 ∷ []
+refusalWords rv.List = 26 ∷ 0 ∷ 0 ∷ []
 
 abbrev pub refusalOf : (tag a b : ℕ) → Refusal
 refusalOf tag a b =
@@ -68,7 +69,8 @@ refusalOf tag a b =
     pick (eqb tag 20) rv.Short (
     pick (eqb tag 21) rv.Opcode (
     pick (eqb tag 22) rv.Undo (
-    rv.Attributes))))))))))))))))))))))
+    pick (eqb tag 26) rv.List (
+    rv.Attributes)))))))))))))))))))))))
 
 -- why the opening failed
 abbrev pub failureWords : Failure → List ℕ

@@ -38,6 +38,7 @@ RefusalFits rv.Wrong = Unit {0}
 RefusalFits rv.Short = Unit {0}
 RefusalFits rv.Opcode = Unit {0}
 RefusalFits rv.Undo = Unit {0}
+RefusalFits rv.List = Unit {0}
 
 abbrev pub FailureFits : Failure → Type 0
 FailureFits fv.Nothing = Unit {0}

@@ -22,7 +22,7 @@ pub struct Ledger {
     pub closing: Closing,
 }
 
-// A refusal: its number, then its values.
+// A refusal: its number less 1, then its values.
 pub fn refusal_words(v: Refusal) -> [u64; 3]
     ensures { λ r. ⌜ r ≡ refusalWords v ⌝ }
 {
@@ -50,6 +50,7 @@ pub fn refusal_words(v: Refusal) -> [u64; 3]
         Refusal::Short => [20, 0, 0],
         Refusal::Opcode => [21, 0, 0],
         Refusal::Undo => [22, 0, 0],
+        Refusal::List => [26, 0, 0],
     }
 }
 
@@ -79,6 +80,7 @@ pub fn refusal_from(tag: u64, a: u64, b: u64) -> Refusal
         20 => Refusal::Short,
         21 => Refusal::Opcode,
         22 => Refusal::Undo,
+        26 => Refusal::List,
         _ => Refusal::Attributes,
     }
 }

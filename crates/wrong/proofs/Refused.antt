@@ -11,6 +11,7 @@ use Rattle.hcr.specs.Words.{waitedOf, isIn}
 use Rattle.dma.specs.Blocks.{highest}
 use Rattle.dma.specs.PageList.{listAt, firstBlocks, behind}
 use Rattle.bars.specs.Bars.{bars}
+use Rattle.bars.specs.Resource.{walk}
 use Rattle.bars.specs.Choose.{those, upTo, any, firstOf, rising, asked, chosen}
 use Rattle.wrong.specs.Wrong.{alike, Row, refuses, refusesAll, Refuses, AllRefuse, writeNumbers, wrong}
 
@@ -43,7 +44,7 @@ all-refuse (r ∷ rs) h =
     (by-test r (alike (r .asked) (r .first)) (alike (r .asked) (r .second)) refl refl (q .0), all-refuse rs (q .1))
 
 tested : refusesAll wrong ≡ true
-unfolding refusesAll alike digits putDigits waitedOf isIn writeNumbers highest listAt firstBlocks behind bars those upTo any firstOf rising asked chosen
+unfolding refusesAll alike digits putDigits waitedOf isIn writeNumbers highest listAt firstBlocks behind bars walk those upTo any firstOf rising asked chosen
 tested = refl
 
 -- THE THEOREM

@@ -24,7 +24,8 @@ use Rattle.dma.specs.declared.Virt.the-variants as v
 use Rattle.dma.specs.declared.Block.{Block}
 use Rattle.dma.specs.declared.Cutter.{Cutter}
 use Rattle.dma.specs.declared.Listed.{Listed}
-use Rattle.bars.specs.Bars.{is64, baseAt, candidatesAt, resourceAt}
+use Rattle.bars.specs.Bars.{is64, baseAt, candidatesAt}
+use Rattle.bars.specs.Resource.{resourceAt}
 use Rattle.bars.specs.Choose as choose
 use Rattle.bars.specs.Steps.{stepOf, chooseAt}
 use Rattle.bars.specs.declared.BarRange.{BarRange}
@@ -370,9 +371,20 @@ dwords = 0xf0000004 ∷ 0 ∷ 0xe000000c ∷ 0 ∷ 0 ∷ 0 ∷ []
 abbrev others : List ℕ
 others = 0xc005 ∷ 0 ∷ 0 ∷ 0 ∷ 0xd000000c ∷ 0x14 ∷ []
 
--- a descriptor of 46 bytes, by its first
-abbrev descriptor : ℕ → List ℕ
-descriptor tag = putAt Little (putAt Little (tag ∷ zeros 45) 14 8 0x1122334455667788) 38 8 0x800000
+-- a descriptor of 46 bytes, by its tag, its length field and its type, with a translation offset; and
+-- a memory descriptor without one
+abbrev quad : List ℕ → (off v : ℕ) → List ℕ
+quad s off v = putAt Little s off 8 v
+
+abbrev descriptor : (tag long type offset : ℕ) → List ℕ
+descriptor tag long type offset =
+    quad (quad (quad (tag ∷ long ∷ 0 ∷ type ∷ zeros 42) 14 0x1122334455667788) 30 offset) 38 0x800000
+
+abbrev memory : List ℕ
+memory = descriptor 0x8a 43 0 0
+
+abbrev listed : List ℕ → List ℕ
+listed bytes = toldBy toldRange (resourceAt bytes)
 
 -- bars: the registers, and what PCI I/O says of one
 abbrev pub addresses : List Row
@@ -394,11 +406,27 @@ addresses =
     -- candidates of register 6, refused: both 0; counted
     row (toldPair (candidatesAt dwords 6)) (0 ∷ 0 ∷ 0 ∷ []) (0 ∷ 6 ∷ 4 ∷ []) ∷
     -- resource: base and length exchanged; the other order
-    row (toldRange (resourceAt (descriptor 0x8a))) (0x800000 ∷ 0x1122334455667788 ∷ []) (0x8877665544332211 ∷ 0x800000000000 ∷ []) ∷
-    -- resource of 45 bytes: a range with a length of 0; a range with the bytes that are there
-    row (toldRange (resourceAt (take 45 (descriptor 0x8a)))) (0x1122334455667788 ∷ 0 ∷ []) (0x1122334455667788 ∷ 0x800000 ∷ []) ∷
-    -- resource of a DWORD descriptor: a range; an empty one
-    row (toldRange (resourceAt (descriptor 0x87))) (0x1122334455667788 ∷ 0x800000 ∷ []) (0 ∷ 0 ∷ []) ∷
+    row (listed memory) (0 ∷ 0x800000 ∷ 0x1122334455667788 ∷ []) (0 ∷ 0x8877665544332211 ∷ 0x800000000000 ∷ []) ∷
+    -- resource of 45 bytes: no answer; a range with the bytes that are there
+    row (listed (take 45 memory)) (0 ∷ []) (0 ∷ 0x1122334455667788 ∷ 0x800000 ∷ []) ∷
+    -- resource of a DWORD descriptor: a range; 27
+    row (listed (descriptor 0x87 43 0 0)) (0 ∷ 0x1122334455667788 ∷ 0x800000 ∷ []) (27 ∷ []) ∷
+    -- resource with an offset of 2^64 - 0x1122334400000000: not added; added beyond 2^64
+    row (listed (descriptor 0x8a 43 0 0xeeddccbc00000000))
+    (0 ∷ 0x1122334455667788 ∷ 0x800000 ∷ []) (0 ∷ 0x10000000055667788 ∷ 0x800000 ∷ []) ∷
+    -- resource of 42 bytes behind the header: a range; no answer
+    row (listed (descriptor 0x8a 42 0 0)) (0 ∷ 0x1122334455667788 ∷ 0x800000 ∷ []) (0 ∷ []) ∷
+    -- resource of an I/O range ahead of a memory one: the I/O range's; no answer
+    row (listed (descriptor 0x8a 43 1 1 ++ memory)) (0 ∷ 0x1122334455667789 ∷ 0x800000 ∷ []) (0 ∷ []) ∷
+    -- resource of an I/O range and the end tag: 27; a range
+    row (listed (descriptor 0x8a 43 1 0 ++ (0x79 ∷ 0 ∷ []))) (27 ∷ []) (0 ∷ 0x1122334455667788 ∷ 0x800000 ∷ []) ∷
+    -- resource of an I/O range without an end tag: no answer; a range
+    row (listed (descriptor 0x8a 43 1 0)) (0 ∷ []) (0 ∷ 0x1122334455667788 ∷ 0x800000 ∷ []) ∷
+    -- resource of two memory ranges: the last; both lengths
+    row (listed (memory ++ descriptor 0x8a 43 0 1))
+    (0 ∷ 0x1122334455667789 ∷ 0x800000 ∷ []) (0 ∷ 0x1122334455667788 ∷ 0x1000000 ∷ []) ∷
+    -- resource of no bytes: no answer; an empty range
+    row (listed []) (0 ∷ []) (0 ∷ 0 ∷ 0 ∷ []) ∷
     []
 
 -- a choice under way, a pick, and what an answer leads to, as numbers

@@ -176,6 +176,7 @@ claimed tc.Refused = 2 ∷ []
 abbrev found : Found → List ℕ
 found (u.Bar y) = 0 ∷ y .index ∷ []
 found u.Refused = 4 ∷ []
+found u.BadList = 27 ∷ []
 
 abbrev spot : Range → List ℕ
 spot y = y .virt ∷ y .bytes ∷ []

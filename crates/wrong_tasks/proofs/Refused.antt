@@ -9,6 +9,7 @@ use Rattle.hcr.specs.Words.{waitedOf, isIn}
 use Rattle.hcr.proofs.Laws.{waited-is, timeout-waited}
 use Rattle.words.specs.Words.{flat}
 use Rattle.bars.specs.Bars.{bars}
+use Rattle.bars.specs.Resource.{walk}
 use Rattle.bars.specs.Choose.{those, rising}
 use Rattle.command.specs.Script.{low, immediate, judged, verdict, poll, start, fenced}
 use Rattle.command.specs.Machine.{cmdAsks, cmdStepOf}
@@ -18,7 +19,7 @@ use Rattle.undo.specs.List.{topOf, anyReserved, pushOf}
 use Rattle.wrong_tasks.specs.Wrong.{wrong, late}
 
 tested : refusesAll wrong ≡ true
-unfolding refusesAll alike waitedOf isIn low immediate judged verdict poll start fenced cmdAsks cmdStepOf restore vendor digits bars those rising scan topOf anyReserved pushOf flat
+unfolding refusesAll alike waitedOf isIn low immediate judged verdict poll start fenced cmdAsks cmdStepOf restore vendor digits bars walk those rising scan topOf anyReserved pushOf flat
 tested = refl
 
 -- THE THEOREM

@@ -586,9 +586,21 @@ choiceAt k = record { base = 0xe0000000; first = candidate 2 br.NoAnswer; second
 abbrev findAt : BarPhase → FindBar
 findAt p = record { phase = p; dwords = barDwords }
 
--- a resource list of 46 bytes, with this base and a length of 0x2000
+-- a resource list of one memory descriptor, with this base and a length of 0x2000; and one that is cut
 abbrev resource : ℕ → List ℕ
-resource b = 0x8a ∷ (zeros 13 ++ (0 ∷ 0 ∷ 0 ∷ b ∷ 0 ∷ 0 ∷ 0 ∷ 0 ∷ (zeros 16 ++ (0 ∷ 0x20 ∷ 0 ∷ 0 ∷ 0 ∷ 0 ∷ 0 ∷ 0 ∷ []))))
+resource b = 0x8a ∷ 43 ∷ (zeros 15 ++ (b ∷ (zeros 21 ++ (0x20 ∷ zeros 6))))
+
+abbrev cut : List ℕ
+cut = take 45 (resource 0xe0)
+
+-- the same choice, where the first has the base
+abbrev firstHas : Asking → Choice
+firstHas k = record {
+  base = 0xe0000000;
+  first = candidate 2 (br.Range 0xe0000000 0x2000);
+  second = candidate 1 br.NoAnswer;
+  asking = k;
+}
 
 abbrev toldPhase : BarPhase → List ℕ
 toldPhase (up.Reading n) = 0 ∷ n ∷ []
@@ -644,6 +656,15 @@ searches =
     row (barStepped (up.Choosing (choiceAt (ba.Other 3))) a.List (resource 0xe0)) (0 ∷ 0 ∷ 3 ∷ 0 ∷ 0x2000 ∷ 0 ∷ []) (1 ∷ 1 ∷ 0xe0000000 ∷ 4 ∷ 2 ∷ 4 ∷ barDwords) ∷
     -- the last has another base: it is picked; 4
     row (barStepped (up.Choosing (choiceAt (ba.Other 5))) a.List (resource 0xd0)) (0 ∷ 0 ∷ 5 ∷ 0 ∷ 0x2000 ∷ 1 ∷ []) (0 ∷ 4 ∷ []) ∷
+    -- the first's list is cut: no answer; 4
+    row (barStepped (up.Choosing (choiceAt ba.First)) a.List cut)
+    (1 ∷ 1 ∷ 0xe0000000 ∷ 1 ∷ 1 ∷ 0 ∷ barDwords) (0 ∷ 4 ∷ []) ∷
+    -- the second's, where the first has the base: the first is picked; the others are asked
+    row (barStepped (up.Choosing (firstHas ba.Second)) a.List cut)
+    (0 ∷ 0 ∷ 2 ∷ 0 ∷ 0x2000 ∷ 0 ∷ []) (1 ∷ 1 ∷ 0xe0000000 ∷ 0 ∷ 2 ∷ 0 ∷ barDwords) ∷
+    -- that of another: passed over; settled
+    row (barStepped (up.Choosing (choiceAt (ba.Other 3))) a.List cut)
+    (1 ∷ 1 ∷ 0xe0000000 ∷ 4 ∷ 2 ∷ 4 ∷ barDwords) (0 ∷ 0 ∷ 2 ∷ 1 ∷ 0 ∷ 4 ∷ []) ∷
     -- another kind of answer: failed; a list
     row (barStepped (up.Choosing (choiceAt ba.Second)) a.Done (resource 0xe0)) (1 ∷ 1 ∷ 0xe0000000 ∷ 0 ∷ 2 ∷ 0 ∷ barDwords) (0 ∷ 0 ∷ 1 ∷ 0 ∷ 0x2000 ∷ 0 ∷ []) ∷
     -- the script where neither has the base: the others from 1 on; settled at once

@@ -9,9 +9,9 @@ use Rattle.bars.proofs.length_of.Tie as tie
 
 returns : tie.Need-returns
 returns c = let b = c .before .before .before .before .before in (
-    field-value Little (b .args .descriptor .now) 1 2 (c .before .v .given .0 .0) (sym (ap read16 (c .before .v .given .1)) ∙ c .before .before .before .le16 .ensures) (b .pre),
-    search needs,
-  )
+  field-value Little (b .args .descriptor .now) 1 2 (c .before .v .given .0 .0) (sym (ap read16 (c .before .v .given .1)) ∙ c .before .before .before .le16 .ensures) (b .pre),
+  search needs,
+)
 
 returns-2 : tie.Need-returns-2
 returns-2 c = let b = c .before .before .before .before in

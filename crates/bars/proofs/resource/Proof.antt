@@ -96,9 +96,9 @@ loop-again c = let s = c .before .before .before .before .before .before .before
     let e = c .before .length-of .ensures .0 in (
       omega arith,
       sym (drop-walk s (l .at) (3 + m))
-      ∙ ap (λ (k : ℕ). walk 0 (drop (3 + k) r)) e
-      ∙ sym (walk-passed r (omega arith) (c .before .before .before .before .before .if1 .left) (c .before .before .if3 .left))
-      ∙ as-all s (l .at) (l .inv .1),
+          ∙ ap (λ (k : ℕ). walk 0 (drop (3 + k) r)) e
+          ∙ sym (walk-passed r (omega arith) (c .before .before .before .before .before .if1 .left) (c .before .before .if3 .left))
+          ∙ as-all s (l .at) (l .inv .1),
     )
 
 returns-5 : tie.Need-returns-5 Inv-loop μ-loop

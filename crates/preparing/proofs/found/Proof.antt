@@ -15,6 +15,12 @@ returns-2 c = simp (
   c .part .ensures,
 )
 
+returns-3 : tie.Need-returns-3
+returns-3 c = simp (
+  c .before .enum-told2 .given .1,
+  c .part2 .ensures,
+)
+
 pub found-spec : {M : Type 1} → statement M
 found-spec =
     tie.close
@@ -24,5 +30,8 @@ found-spec =
     (λ c κs. search needs)
     (λ c. search needs)
     (λ c κs. search needs)
+    (λ c. search needs)
+    (λ c κs. search needs)
     returns
-    returns-2)
+    returns-2
+    returns-3)

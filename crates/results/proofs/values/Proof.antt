@@ -156,6 +156,12 @@ returns-23 c = simp (
   c .enum-told13 .given .1,
 )
 
+returns-24 : tie.Need-returns-24
+returns-24 c = simp (
+  c .before .match .keys24,
+  c .enum-told14 .given .1,
+)
+
 pub values-spec : {M : Type 1} → statement M
 values-spec =
     tie.close
@@ -189,6 +195,7 @@ values-spec =
     (λ c. search needs)
     (λ c. search needs)
     (λ c. search needs)
+    (λ c. search needs)
     returns
     returns-2
     returns-3
@@ -211,4 +218,5 @@ values-spec =
     returns-20
     returns-21
     returns-22
-    returns-23)
+    returns-23
+    returns-24)

@@ -89,6 +89,9 @@ returns-22 c = simp (c .enum-told12 .given .1)
 returns-23 : tie.Need-returns-23
 returns-23 c = simp (c .enum-told13 .given .1)
 
+returns-24 : tie.Need-returns-24
+returns-24 c = simp (c .enum-told14 .given .1)
+
 pub refusal-words-spec : {M : Type 1} → statement M
 refusal-words-spec =
     tie.close
@@ -122,6 +125,7 @@ refusal-words-spec =
     (λ c. search needs)
     (λ c. search needs)
     (λ c. search needs)
+    (λ c. search needs)
     returns
     returns-2
     returns-3
@@ -144,4 +148,5 @@ refusal-words-spec =
     returns-20
     returns-21
     returns-22
-    returns-23)
+    returns-23
+    returns-24)
