@@ -14,6 +14,15 @@
 #define TO_ATTRIBUTES 8
 /* The 16-bit reads that give 0xffff after a reset. */
 #define ABSENT 2
+/* Resource lists: tags, types, the bytes of a header and of a descriptor, and where its fields begin; what is added to an address of the host. */
+#define QWORD_SPACE 0x8a
+#define END_TAG 0x79
+#define MEMORY_RANGE 0
+#define IO_RANGE 1
+#define HEADER 3
+#define FIELDS 6
+#define DESCRIPTOR 46
+#define OFFSET 0x100000000ull
 
 #define SUPPORTED \
     (EFI_PCI_IO_ATTRIBUTE_IO | EFI_PCI_IO_ATTRIBUTE_MEMORY | EFI_PCI_IO_ATTRIBUTE_BUS_MASTER | EFI_PCI_IO_ATTRIBUTE_DUAL_ADDRESS_CYCLE)
@@ -106,22 +115,44 @@ EFI_STATUS config_attributes(EFI_PCI_IO_PROTOCOL_ATTRIBUTE_OPERATION operation, 
     }
 }
 
-/* A QWORD address space descriptor (ACPI) and the end tag, as EDK II makes them: in the place of the highest address is the alignment. */
+/*
+ * A QWORD address space descriptor (ACPI) of so many bytes, as EDK II makes them: in the place of the highest address is the alignment. Gives where it ends.
+ */
+static UINT8 *describe(UINT8 *d, UINT8 type, UINT16 bytes, UINT64 minimum, UINT64 offset, UINT64 length)
+{
+    UINT64 fields[] = { 64, minimum, length - 1, offset, length };
+    UINT16 behind = bytes - HEADER;
+    SetMem(d, bytes, 0);
+    d[0] = QWORD_SPACE;
+    d[1] = behind & 0xff;
+    d[2] = behind >> 8;
+    d[3] = type;
+    CopyMem(d + FIELDS, fields, sizeof fields);
+    return d + bytes;
+}
+
+/*
+ * As a server's firmware has it that reports an I/O range ahead of the memory range, and a translation offset: 94 bytes with the end tag; every second time
+ * the I/O range has 1,000 bytes, and no end tag follows. Both give the same BAR.
+ */
 EFI_STATUS config_resource(UINT8 bar, VOID **list)
 {
+    static BOOLEAN second;
     UINT8 *d;
-    EFI_STATUS status;
     if (bar >= CARD_BARS)
         return EFI_UNSUPPORTED;
-    UINT64 base = bars[bar].low & ~0xfu, fields[] = { 64, base, bars[bar].bytes - 1, 0, bars[bar].bytes };
-    static const UINT8 head[] = { 0x8a, 0x2b, 0, 0, 0, 0 }, end[] = { 0x79, 0 };
-    status = BS->AllocatePool(EfiBootServicesData, sizeof head + sizeof fields + sizeof end, (VOID **)&d);
+    UINT16 ahead = second ? 1000 : DESCRIPTOR;
+    EFI_STATUS status = BS->AllocatePool(EfiBootServicesData, ahead + DESCRIPTOR + (second ? 0 : 2), (VOID **)&d);
     if (status != EFI_SUCCESS)
         return status;
-    CopyMem(d, (VOID *)head, sizeof head);
-    CopyMem(d + sizeof head, fields, sizeof fields);
-    CopyMem(d + sizeof head + sizeof fields, (VOID *)end, sizeof end);
     *list = d;
+    d = describe(d, IO_RANGE, ahead, 0xc000, 0, 0x100);
+    d = describe(d, MEMORY_RANGE, DESCRIPTOR, (bars[bar].low & ~0xfu) - OFFSET, OFFSET, bars[bar].bytes);
+    if (!second) {
+        d[0] = END_TAG;
+        d[1] = 0;
+    }
+    second = !second;
     return EFI_SUCCESS;
 }
 

@@ -8,8 +8,13 @@
 
 #define PAGE 4096
 #define WORD 8
-/* ACPI's resource lists: a large item has a length of 16 bits behind its tag, a small one in the low bits of it; the end tag has a checksum. */
-#define LARGE_ITEM 0x80
+/*
+ * ACPI's resource lists: a QWORD address space descriptor has a length of 16 bits behind its tag, not counting these three bytes, and then its type; the end
+ * tag has a checksum behind it.
+ */
+#define QWORD_SPACE 0x8a
+#define HEADER 3
+#define MEMORY 0
 #define END_TAG 0x79
 #define END_BYTES 2
 
@@ -73,13 +78,27 @@ static answer attributes(loader *l, UINT64 operation, UINT64 value)
     return given(status, HCA_QWORD, result, 0);
 }
 
-/* The bytes of a list with its end tag, but not more than are handed on. */
+static UINTN at_most(UINTN n, UINTN most)
+{
+    return n < most ? n : most;
+}
+
+/*
+ * The bytes of a list that a session looks at, but not more than there is room for: with the first memory descriptor, the end tag or an unknown tag. What
+ * lies behind may be no part of the list, and is not read.
+ */
 static UINTN list_bytes(const UINT8 *list)
 {
     UINTN n = 0;
-    while (n < LOADER_LIST && list[n] != END_TAG)
-        n += list[n] & LARGE_ITEM ? 3 + (list[n + 1] | list[n + 2] << 8) : 1 + (list[n] & 7);
-    return n + END_BYTES < LOADER_LIST ? n + END_BYTES : LOADER_LIST;
+    while (n < LOADER_LIST && list[n] == QWORD_SPACE) {
+        UINTN end = n + HEADER + (list[n + 1] | list[n + 2] << 8);
+        if (list[n + HEADER] == MEMORY)
+            return at_most(end, LOADER_LIST);
+        n = end;
+    }
+    if (n >= LOADER_LIST)
+        return LOADER_LIST;
+    return at_most(n + (list[n] == END_TAG ? END_BYTES : 1), LOADER_LIST);
 }
 
 /* A null list is a failure; any other is copied and given back. */

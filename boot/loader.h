@@ -9,8 +9,8 @@
 
 /* What a session holds at most: two mailboxes, two areas, 14 ranges and 64 lent buffers. */
 #define LOADER_PAGES 82
-/* No more of a resource list is handed on. */
-#define LOADER_LIST 64
+/* The room for a resource list; of one that is longer no more is handed on. */
+#define LOADER_LIST 2048
 
 /* Pages known by a handle, which is their place. */
 typedef struct {

@@ -106,7 +106,12 @@ typedef struct hca_undo {
 #define HCA_FAILED 5
 #define HCA_HANDLE 6  /* any number by which the caller knows these pages, and no others that are not given back yet */
 #define HCA_MAPPED 7  /* device address, bytes mapped */
-#define HCA_LIST 8    /* the bytes are lent as `resource`; a list of fewer than 46 counts as none */
+/*
+ * A resource list, lent as `resource`: 1,024 bytes at least where it has so many. It is looked at as far
+ * as its first memory descriptor, 0x79 or an unknown tag. A list that was cut is 27 unless its first
+ * memory descriptor is whole; no bytes at all are 27.
+ */
+#define HCA_LIST 8
 
 /*
  * What a call writes to `out`: the kind of the question, its three values, and how many undo records are left on the caller's list. `out` may be longer; the bytes behind are not
@@ -189,6 +194,7 @@ uint32_t hca_question(const uint8_t *state, size_t state_bytes, uint8_t *out, si
  *   8  the command register was busy before a command                     18  a device address is no page multiple, or a size or an end passes 2^64
  *   9  a bus call failed within a command (microseconds)                  22  an undo record has got a reserved opcode since the call began
  *   10 not the primary function: QUERY_FW ended with status 0x50          23  an undo command failed, or one was wanted on a broken session
+ *   27 the firmware's resource list of a BAR is damaged or cut
  * 23 stands too where one call has sent 2^32 - 1 undo records and there are more: no list holds so many, so that only a caller who pushes on and on while it runs is stopped, and
  * every call ends. In a closing or a quiesce that counts as a failed undo command.
  * A closing went clean (0), by a reset (1), or everything is kept and must never be given back (2): hca_books then names it. The first two have given everything back.

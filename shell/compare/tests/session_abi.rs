@@ -7,9 +7,11 @@ use compare::sessions::cases::{self, Case};
 use compare::sessions::over::Over;
 use session::abi::{self, Words, UNDO_RECORDS};
 use session::ffi::{self, Called, Lent, Reader, Told};
-use session::{Call, Closing, Outcome, Question, Refusal, Refused, Session, Undo, UndoList};
+use session::{Call, Closing, Outcome, Question, Refusal, Refused, Session, Undo, UndoList, LIST_BYTES};
+use world::bus::Resource;
 use world::plan::OddMap;
 use world::prng::Prng;
+use world::resources::{Descriptor, END, IO};
 use world::trace::{Event, Trace};
 use world::{World, PAGE};
 
@@ -487,24 +489,21 @@ fn words_that_are_no_question() {
     assert!(none.into_iter().all(|w| of(w).is_none()));
 }
 
-/// A list shorter than its descriptor is no answer, though it has the tag; one that is longer than the loop's room is cut.
+/// A list that is longer than the wrapper's room is cut: 27 unless its first memory descriptor is whole.
 #[test]
-fn resource_lists_of_any_length() {
-    let mut whole = vec![0x8a; 14];
-    whole.extend(0xe000_0000u64.to_le_bytes());
-    whole.extend([0; 16]);
-    whole.extend((8u64 << 20).to_le_bytes());
-    whole.resize(400, 0x5a);
-    for length in [0, 1, 13, 14, 22, 38, 45, 46, 47, 64, 65, 400] {
+fn lists_that_are_cut() {
+    let memory = Descriptor::memory(0xe000_0000, 8 << 20);
+    for more in [0, 1, LIST_BYTES - 139, LIST_BYTES - 138, LIST_BYTES, 65_492] {
+        let ahead = Descriptor { kind: IO, more, ..memory };
+        let list = [ahead.bytes(), memory.bytes(), memory.bytes(), END.into()].concat();
         let mut case = cases::variants()[7].clone();
-        let list = world::bus::Resource::List(whole[..length].to_vec());
-        case.plan.resources.odd = (0..6).map(|i| (i, list.clone())).collect();
-        let run = ours(&case).ran;
-        let opened = run.opened.expect("a good opening");
-        let expected = (length >= 46).then_some(8 << 20);
-        assert_eq!((opened.uar_bar, opened.uar_size), (2, expected), "{length} bytes");
-        if length >= 46 {
-            assert_eq!(rust(&case).expect("inside the domain").ran.opened.expect("good"), opened);
+        case.plan.resources.odd = (0..6).map(|i| (i, Resource::List(list.clone()))).collect();
+        let opened = ours(&case).ran.opened;
+        if 46 + more + 46 <= LIST_BYTES {
+            let opened = opened.expect("a good opening");
+            assert_eq!((opened.uar_bar, opened.uar_size), (2, Some(8 << 20)), "{more} bytes more");
+        } else {
+            assert_eq!(opened.expect_err("a bad list").number, 27, "{more} bytes more");
         }
     }
 }

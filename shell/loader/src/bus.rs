@@ -20,10 +20,11 @@ use crate::pci_io::PciIoProtocol;
 const PAGE: usize = 4096;
 /// What a session holds at most: two mailboxes, two areas, fourteen ranges, and the lent buffers.
 const PLACES: usize = 2 + 2 + 14 + LENT_BUFFERS;
-/// ACPI's resource lists: a large item has a length of 16 bits behind its tag, a small one in the low bits of it; the end
-/// tag has a checksum behind it.
-const LARGE_ITEM: usize = 0x80;
-const SMALL_LENGTH: usize = 7;
+/// ACPI's resource lists: a QWORD address space descriptor has a length of 16 bits behind its tag, not counting these three
+/// bytes, and then its type; the end tag has a checksum behind it.
+const QWORD_SPACE: usize = 0x8a;
+const HEADER: usize = 3;
+const MEMORY: usize = 0;
 const END_TAG: usize = 0x79;
 const END_BYTES: usize = 2;
 
@@ -101,21 +102,29 @@ fn operation(call: Attribute) -> Operation {
     }
 }
 
-/// The bytes of a resource list with its end tag, but not more than there is room for.
+/// The bytes of a resource list that a session looks at, but not more than there is room for: with the first memory
+/// descriptor, the end tag or an unknown tag. What lies behind may be no part of the list, and is not read.
 ///
 /// # Safety
-/// `list` is a resource list of ACPI.
+/// `list` is a resource list of ACPI, at least as far as these bytes.
 unsafe fn list_bytes(list: NonNull<u8>, room: usize) -> usize {
-    // SAFETY: a byte before the end tag, or of it.
+    // SAFETY: a byte of a descriptor, or a tag behind one that is passed over.
     let byte = |i: usize| usize::from(unsafe { list.as_ptr().add(i).read() });
     let mut n = 0;
-    while n < room && byte(n) != END_TAG {
-        n += match byte(n) & LARGE_ITEM {
-            0 => 1 + (byte(n) & SMALL_LENGTH),
-            _ => 3 + (byte(n + 1) | byte(n + 2) << 8),
-        };
+    while n < room {
+        match byte(n) {
+            QWORD_SPACE => {
+                let end = n + HEADER + (byte(n + 1) | byte(n + 2) << 8);
+                if byte(n + HEADER) == MEMORY {
+                    return room.min(end);
+                }
+                n = end;
+            }
+            END_TAG => return room.min(n + END_BYTES),
+            _ => return n + 1,
+        }
     }
-    room.min(n + END_BYTES)
+    room
 }
 
 /// To a page, byte by byte, so that the device sees it.

@@ -2,14 +2,11 @@
 
 use core::ptr::NonNull;
 
-use session::{Books, Call, Outcome, Question, Refused, Session, Setup, Undo, UndoList};
+use session::{Books, Call, Outcome, Question, Refused, Session, Setup, Undo, UndoList, LIST_BYTES};
 use uefi::boot::{self, Tpl};
 
 use crate::bus::PciIoBus;
 use crate::pci_io::PciIoProtocol;
-
-/// No more of a resource list is handed on: a descriptor has 46 bytes.
-const LIST: usize = 64;
 
 /// A card with its session and the caller's undo list; some 14 KB, so not for the stack.
 pub struct Card<'a> {
@@ -39,7 +36,7 @@ impl<'a> Card<'a> {
     /// Makes a call and answers its questions: the library with interrupts off, the bus at the caller's own level.
     pub fn call(&mut self, call: Call) -> Result<Outcome, Refused> {
         let Card { session, bus, undo } = self;
-        let mut list = [0; LIST];
+        let mut list = [0; LIST_BYTES];
         let mut question = with_interrupts_off(|| session.begin(call, undo))?;
         while question != Question::Finished {
             let answer = session.ask(bus, &mut list);

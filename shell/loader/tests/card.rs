@@ -6,12 +6,15 @@ mod instance;
 use instance::Instance;
 use loader::{visit, Card, PciIoBus};
 use session::abi::UNDO_RECORDS;
-use session::{Bus as _, Call, Closing, Command, How, Outcome, Refusal, Refused, Session, Setup, Undo, UndoList};
+use session::{
+    Bus as _, Call, Closing, Command, How, Outcome, Refusal, Refused, Session, Setup, Undo, UndoList, LIST_BYTES,
+};
 use station::over::Over;
 use uefi::boot;
 use uefi::Status;
 use world::bus::Resource;
 use world::plan::{Fault, OddMap, Plan};
+use world::resources::{Descriptor, END, IO};
 use world::traced::Traced;
 use world::{Holdings, World};
 
@@ -297,24 +300,76 @@ fn a_map_of_another_size() {
     assert!(run.holdings.in_use.is_empty() && run.holdings.mapped.is_empty());
 }
 
-/// A list is copied as far as its end tag or as there is room, and no byte behind it.
+/// A list is copied as far as its first memory descriptor, its end tag, an unknown tag, or as there is room; no byte behind
+/// is read, since it stands at the end of its allocation.
 #[test]
 fn lists_of_every_shape() {
-    let large = |n: u16| [&[0x8a][..], &n.to_le_bytes(), &vec![0x11; n.into()], &[0x79, 0]].concat();
-    let lists = [vec![0x79, 0], vec![0x22, 1, 2, 0x79, 0], large(0), large(0x2b), large(70), large(400)];
-    for list in lists {
+    let memory = Descriptor::memory(0xe000_0000, 8 << 20);
+    let io = |more: usize| Descriptor { kind: IO, more, ..memory }.bytes();
+    let end = END.to_vec();
+    let two = [io(0), memory.bytes(), end.clone()].concat();
+    // The list, and how much of it is copied.
+    let lists = [
+        (end.clone(), 2),
+        (vec![0x22], 1),
+        (vec![0x22, 1, 2, 0x79, 0], 1),
+        ([vec![0x8a, 0, 0], end.clone()].concat(), 5),
+        ([memory.bytes(), end.clone()].concat(), 46),
+        (memory.bytes(), 46),
+        (memory.bytes()[..10].iter().copied().chain([0; 36]).collect(), 46),
+        (two.clone(), 92),
+        ([io(0), end.clone()].concat(), 48),
+        ([io(0), vec![0x87]].concat(), 47),
+        ([io(954), memory.bytes(), end.clone()].concat(), 1_046),
+        ([io(LIST_BYTES - 92), memory.bytes()].concat(), LIST_BYTES),
+        ([io(LIST_BYTES - 91), memory.bytes()].concat(), LIST_BYTES),
+        (io(LIST_BYTES - 46), LIST_BYTES),
+        ([io(LIST_BYTES), end].concat(), LIST_BYTES),
+    ];
+    for (list, copied) in lists {
         let mut plan = Plan::obedient();
         plan.resources.odd = vec![(2, Resource::List(list.clone()))];
         let mut instance = Instance::new(plan, ERROR);
         boot::hook(Some(instance.machine.clone()));
         // SAFETY: the instance lives longer.
         let mut bus = unsafe { PciIoBus::new(instance.pci()) };
-        let mut copy = [0xee; 64];
+        let mut copy = [0xee; LIST_BYTES];
         let n = bus.resource(2, &mut copy).expect("a list");
         boot::hook(None);
-        assert_eq!((n, &copy[..n]), (list.len().min(64), &list[..n]));
+        assert_eq!((n, &copy[..n]), (copied, &list[..n]));
         assert!(copy[n..].iter().all(|b| *b == 0xee));
         assert_eq!(instance.machine.lists_out(), 0);
+    }
+}
+
+/// The UAR BAR of the obedient card is found in lists of more than one descriptor, by the address on the bus.
+#[test]
+fn a_list_with_an_io_range_ahead() {
+    let memory = Descriptor { offset: 1 << 32, ..Descriptor::memory(0xe000_0000u64.wrapping_sub(1 << 32), 8 << 20) };
+    let io = |more: usize| Descriptor { kind: IO, more, ..Descriptor::memory(0xc000, 0x100) }.bytes();
+    let end = END.to_vec();
+    let good = [
+        [io(0), memory.bytes(), end.clone()].concat(),
+        [io(954), memory.bytes(), end.clone()].concat(),
+        [io(0), memory.bytes()].concat(),
+        memory.bytes(),
+    ];
+    assert_eq!((good[0].len(), good[1].len()), (94, 1_048));
+    for list in good {
+        let mut plan = Plan::obedient();
+        plan.resources.odd = vec![(2, Resource::List(list.clone()))];
+        let run = beside(&plan, ERROR);
+        let uar = run.setup.as_ref().map(|s| (s.uar.index, s.uar.length, s.uar.how));
+        assert_eq!(uar, Some((2, Some(8 << 20), How::BaseMatches)), "{} bytes", list.len());
+    }
+    let mut short = memory.bytes();
+    short[1] = 42;
+    for list in [[io(LIST_BYTES), memory.bytes(), end].concat(), short] {
+        let mut plan = Plan::obedient();
+        plan.resources.odd = vec![(2, Resource::List(list))];
+        let run = beside(&plan, ERROR);
+        assert_eq!(run.outcomes[0], Ok(Outcome::Failed(Refusal::List, Closing::Clean)));
+        assert!(run.holdings.in_use.is_empty());
     }
 }
 

@@ -6,6 +6,7 @@ use oracle::run::{self, Driver, SharedWorld};
 use world::bus::Resource;
 use world::calls::{self, Call};
 use world::plan::Plan;
+use world::OTHER_LIST;
 use world::results::{Closing, Given, Outcome, Stop};
 use world::trace::{Event, Trace};
 
@@ -25,7 +26,7 @@ fn session(seed: u64) -> (SharedWorld, Driver, Vec<(Call, Outcome<Given>)>) {
 fn assert_pages(seed: u64, world: &SharedWorld, given: &[(Call, Outcome<Given>)]) {
     let world = &world.borrow().bus;
     assert_eq!(world.misuse(), [""; 0], "seed {seed}");
-    assert_eq!(world.outside(), [""; 0], "seed {seed}");
+    assert!(world.outside().iter().all(|why| *why == OTHER_LIST), "seed {seed}");
     let (call, outcome) = given.last().unwrap();
     let closing = match outcome {
         Ok(Given::Closed(c)) => Some(*c),
@@ -49,6 +50,7 @@ fn assert_lists(seed: u64, trace: &Trace) {
     }
 }
 
+/// But for resource lists that the Rust reads otherwise.
 #[test]
 fn seeds_stay_inside_the_domain_and_reach_every_end() {
     let mut ends = BTreeSet::new();
@@ -83,7 +85,8 @@ fn lists_reach_every_end_of_every_call() {
             ends.insert((name(call), end(&outcome)));
         });
         let world = &world.borrow().bus;
-        assert_eq!((world.misuse(), world.outside().len()), (&[][..], 0), "seed {seed}");
+        assert_eq!(world.misuse(), [""; 0], "seed {seed}");
+        assert!(world.outside().iter().all(|why| *why == OTHER_LIST), "seed {seed}");
     }
     assert!(good * 10 > seeds() * 8, "{good} of {}", seeds());
     let of = |names: &[&'static str], ends: &[u32]| -> Vec<(String, u32)> {

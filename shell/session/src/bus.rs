@@ -58,8 +58,9 @@ pub trait Bus {
 
     /// `GetBarAttributes`, for the resource list alone. Copy its bytes to `list`, give the list back with `FreePool`, and
     /// tell how many bytes there are. A list ends with the byte 0x79 and a checksum behind its descriptors, each of which
-    /// says its length; not more than the first 46 bytes are looked at, so one that is longer than `list` may be cut. A
-    /// null list is a failure, though the call was good.
+    /// says its length; it is looked at as far as its first memory descriptor, and what lies behind that, behind 0x79 or
+    /// behind an unknown tag need not be copied. A list that is cut before is 27, no bytes at all too. A null list is a
+    /// failure, though the call was good.
     fn resource(&mut self, bar: u8, list: &mut [u8]) -> Option<usize>;
 
     /// `Stall`. It cannot fail.

@@ -77,6 +77,6 @@ pub use bus::{Bus, Fence, Mailbox};
 pub use call::{Call, Command};
 pub use outcome::{Closing, Outcome, Refusal};
 pub use question::{Answer, Attribute, Mapping, Question};
-pub use session::{Refused, Session};
+pub use session::{Refused, Session, LIST_BYTES};
 pub use setup::{Capabilities, How, Port, Setup, Table, Uar};
 pub use undo::{Undo, UndoList};

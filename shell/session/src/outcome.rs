@@ -57,6 +57,8 @@ pub enum Refusal {
     Reserved,
     /// 23: an undo command failed, or one was wanted on a broken session.
     Undo,
+    /// 27: the firmware's resource list of a BAR is damaged or cut.
+    List,
 }
 
 impl Refusal {
@@ -83,6 +85,7 @@ impl Refusal {
             Refusal::Address => 18,
             Refusal::Reserved => 22,
             Refusal::Undo => 23,
+            Refusal::List => 27,
         }
     }
 
@@ -108,6 +111,7 @@ impl Refusal {
             18 => Refusal::Address,
             22 => Refusal::Reserved,
             23 => Refusal::Undo,
+            27 => Refusal::List,
             _ => return None,
         })
     }

@@ -30,8 +30,9 @@ pub enum Refused {
     Unknown,
 }
 
-/// No more of a resource list is handed on.
-const LIST: usize = 64;
+/// The room for a resource list. An I/O range and a memory range with the end tag have 94 bytes; of a list that is longer
+/// than this room no more is handed on.
+pub const LIST_BYTES: usize = 2048;
 
 /// A card's session: its bytes, the two mailboxes, and what a fence has to know. It is some 12 KB, and needs no
 /// allocation; it may be moved between two calls.
@@ -86,7 +87,7 @@ impl Session {
     /// Answers questions until none is open. The open one is kept as the numbers that the library says, so that an answer
     /// costs few instructions; `ask` and `answer` are for those who step by hand.
     pub fn finish(&mut self, bus: &mut impl Bus, undo: &mut UndoList) -> Result<Outcome, Refused> {
-        let mut list = [0; LIST];
+        let mut list = [0; LIST_BYTES];
         let mut out = self.question.turn();
         while let Some(told) = self.asked(&out, bus, &mut list) {
             let written = out[0] == abi::REG_WRITE;

@@ -1,5 +1,6 @@
 //! The card and the host of a session.
 
+use world::bus::Resource;
 use world::plan::{put_be16, Behaviour, Plan, Which};
 use world::registers::{INIT_HCA, MAP_FA, QUERY_DEV_CAP, QUERY_FW, RUN_FW};
 
@@ -33,5 +34,7 @@ pub fn plan(options: &Options) -> Plan {
     let mut plan = options.seed.map_or_else(usual, Plan::seeded);
     plan.faults.splice(0..0, options.faults.iter().copied());
     plan.card.commands.splice(0..0, options.behaviours());
+    let lists = options.lists.iter().rev().map(|(bar, list)| (*bar, Resource::List(list.clone())));
+    plan.resources.odd.splice(0..0, lists);
     plan
 }

@@ -2,7 +2,7 @@
 
 use world::plan::{Behaviour, Fault, Which, NEVER};
 
-use crate::uses::Use;
+use crate::uses::{hex, Use};
 use crate::words::COMMANDS;
 
 pub const USAGE: &str = "\
@@ -16,6 +16,7 @@ ranges that are mapped, and the results.
   --fail N:taken    the same, and it has its effect all the same
   --status OP=S     the command OP ends with status S
   --timeout OP      the command OP never ends
+  --list BAR=HEX    the firmware's resource list of that BAR index, in place of its own
   --trace           every bus call, with its number, as it is made
   --picture FILE    the layout with its mapped ranges as an SVG; FILE - is a picture of text
   --help            this text
@@ -53,6 +54,8 @@ pub struct Options {
     pub faults: Vec<Fault>,
     /// The commands that end otherwise; the last one given for an opcode counts.
     pub commands: Vec<(u16, Behaviour)>,
+    /// Resource lists by BAR index; the last one given for an index counts.
+    pub lists: Vec<(u8, Vec<u8>)>,
     pub trace: bool,
     pub picture: Option<Picture>,
     /// What is called on the open session.
@@ -91,6 +94,7 @@ pub fn parse(args: impl IntoIterator<Item = String>) -> Result<Asked, String> {
             "--fail" => options.faults.push(fault(&value()?)?),
             "--status" => options.commands.push(status(&value()?)?),
             "--timeout" => options.commands.push((opcode(name, &value()?)?, Behaviour { polls: NEVER, status: 0 })),
+            "--list" => options.lists.push(list(&value()?)?),
             "--picture" => once(name, &mut options.picture, picture(value()?)?)?,
             _ => match Use::parse(name, &mut value)? {
                 Some(it) => options.uses.push(it),
@@ -144,6 +148,13 @@ fn status(text: &str) -> Result<(u16, Behaviour), String> {
     let narrow = |_| format!("--status: a status is below 256, not {status}");
     let status = u8::try_from(number("--status", status)?).map_err(narrow)?;
     Ok((opcode("--status", op)?, Behaviour { polls: 1, status }))
+}
+
+fn list(text: &str) -> Result<(u8, Vec<u8>), String> {
+    let (bar, bytes) = text.split_once('=').ok_or_else(|| format!("--list: not BAR=HEX: {text}"))?;
+    let bar = number("--list", bar)?;
+    let small = u8::try_from(bar).ok().filter(|b| *b < 6);
+    Ok((small.ok_or_else(|| format!("--list: a BAR index is below 6, not {bar}"))?, hex("--list", bytes)?))
 }
 
 pub fn opcode(option: &str, text: &str) -> Result<u16, String> {

@@ -4,7 +4,7 @@ use std::fs;
 use std::io::{self, Write};
 
 use session::abi::UNDO_RECORDS;
-use session::{Call, Closing, Outcome, Question, Refused, Session, Undo, UndoList};
+use session::{Call, Closing, Outcome, Question, Refused, Session, Undo, UndoList, LIST_BYTES};
 use world::plan::Fault;
 use world::traced::Traced;
 use world::World;
@@ -19,9 +19,6 @@ use crate::progress::Progress;
 use crate::report;
 use crate::uses::Use;
 use crate::words;
-
-/// The room for a resource list.
-const LIST: usize = 64;
 
 struct Station<'a, W> {
     out: W,
@@ -53,7 +50,7 @@ impl<'a, W: Write> Station<'a, W> {
 
     /// Answers questions until none is open, and tells what is seen.
     fn drive(&mut self, first: Result<Question, Refused>) -> io::Result<Result<Outcome, Refused>> {
-        let (mut next, mut list) = (first, [0; LIST]);
+        let (mut next, mut list) = (first, [0; LIST_BYTES]);
         while let Ok(question) = next {
             if question == Question::Finished {
                 self.calls.flush(&mut self.out)?;

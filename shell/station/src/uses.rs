@@ -100,7 +100,7 @@ fn alone(option: &str, text: &str) -> Result<Command, String> {
 }
 
 /// Bytes as pairs of hexadecimal digits.
-fn hex(option: &str, text: &str) -> Result<Vec<u8>, String> {
+pub fn hex(option: &str, text: &str) -> Result<Vec<u8>, String> {
     let digit = |b: &u8| char::from(*b).to_digit(16).map(|d| d as u8);
     let pair = |p: &[u8]| Some(digit(p.first()?)? << 4 | digit(p.get(1)?)?);
     let bytes: Option<Vec<u8>> = text.as_bytes().chunks(2).map(pair).collect();

@@ -101,6 +101,7 @@ pub fn refusal(r: Refusal) -> String {
         Refusal::Address => "a device address is no page multiple, or a size passes 2^64".into(),
         Refusal::Reserved => "an undo record has an opcode that no client may send".into(),
         Refusal::Undo => "an undo command failed, or the session was broken and a record was wanted".into(),
+        Refusal::List => "the firmware's resource list of a BAR is damaged or cut".into(),
     }
 }
 

@@ -2,6 +2,8 @@
 
 use std::process::{Command, Output};
 
+use world::resources::{Descriptor, END, IO};
+
 fn station(args: &[&str]) -> Output {
     Command::new(env!("CARGO_BIN_EXE_station")).args(args).output().expect("the program runs")
 }
@@ -40,8 +42,22 @@ fn a_good_session() {
     assert_eq!(ran(&[]).2, "");
 }
 
+/// An I/O range ahead of the memory range, whose minimum is 2^32 less than the BAR's base: 94 bytes.
+#[test]
+fn a_list_of_two_descriptors() {
+    let memory = Descriptor { offset: 1 << 32, ..Descriptor::memory(0xe000_0000u64.wrapping_sub(1 << 32), 8 << 20) };
+    let io = Descriptor { kind: IO, ..Descriptor::memory(0xc000, 0x100) };
+    let list = [io.bytes(), memory.bytes(), END.into()].concat();
+    assert_eq!(list.len(), 94);
+    let of = |list: &[u8]| format!("2={}", list.iter().map(|b| format!("{b:02x}")).collect::<String>());
+    let found = "UAR BAR: index 2, 8 MiB (its base is the one in configuration space)\n";
+    says(&["--list", &of(&list)], 0, &["result: open\n", found, "closed: clean"]);
+    let bad = "refused 27: the firmware's resource list of a BAR is damaged or cut";
+    says(&["--list", &of(&list[..91])], 1, &[bad, "held: nothing"]);
+}
+
 /// Command lines that are refused.
-const BAD: [&[&str]; 43] = [
+const BAD: [&[&str]; 47] = [
     &["--nope"],
     &["extra"],
     &["--seed"],
@@ -58,6 +74,10 @@ const BAD: [&[&str]; 43] = [
     &["--status", "MAP_FA=256"],
     &["--status", "MAP_FA="],
     &["--status", "NOPE=1"],
+    &["--list"],
+    &["--list", "2"],
+    &["--list", "6=7900"],
+    &["--list", "2=790"],
     &["--timeout"],
     &["--timeout", "0x1000"],
     &["--timeout", ""],

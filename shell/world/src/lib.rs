@@ -16,7 +16,7 @@ pub mod memory;
 pub mod plan;
 pub mod prng;
 pub mod registers;
-mod resources;
+pub mod resources;
 pub mod results;
 mod seeded;
 pub mod trace;
@@ -25,7 +25,7 @@ mod world;
 
 pub use held::{Block, Held};
 pub use host::Span;
-pub use world::{Holdings, World};
+pub use world::{Holdings, World, OTHER_LIST};
 
 /// A page, and the unit of every device address of the domain.
 pub const PAGE: u64 = 4096;

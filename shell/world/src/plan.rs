@@ -177,6 +177,8 @@ pub struct ResourcePlan {
     pub sizes: [u64; 6],
     /// Indexes that are answered otherwise.
     pub odd: Vec<(u8, Resource)>,
+    /// Every list is said anew as one memory descriptor, or as none: what the documents read in it, for the Rust.
+    pub plain: bool,
 }
 
 /// What a `BarIndex` counts.
@@ -232,6 +234,7 @@ impl Plan {
                 numbering: Numbering::Registers,
                 sizes: [1 << 20, 0, 8 << 20, 0, 0, 0],
                 odd: Vec::new(),
+                plain: false,
             },
             attributes: AttributePlan { original: 0x7, supported: 0xff07 },
             faults: Vec::new(),

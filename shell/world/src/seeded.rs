@@ -4,6 +4,7 @@
 use crate::bus::Resource;
 use crate::plan::*;
 use crate::prng::Prng;
+use crate::resources::{Descriptor, END, IO};
 
 pub fn plan(seed: u64) -> Plan {
     let mut r = Prng::new(seed);
@@ -232,20 +233,36 @@ fn resources(r: &mut Prng) -> ResourcePlan {
     let uar = if r.one_in(12) { 1 << 20 } else { r.pick(&[8 << 20, 32 << 20, u64::MAX]) };
     let n = r.pick(&[0, 0, 0, 0, 0, 0, 1, 2, 6]);
     let odd = (0..n).map(|_| (r.below(6) as u8, odd_resource(r))).collect();
-    ResourcePlan { numbering, sizes: [1 << 20, uar, uar, uar, 1 << 12, 0], odd }
+    ResourcePlan { numbering, sizes: [1 << 20, uar, uar, uar, 1 << 12, 0], odd, plain: false }
 }
 
-/// No list, a list of another kind, or any base and length.
+/// No list, any memory range, or now and then a list that the Rust reads otherwise.
 fn odd_resource(r: &mut Prng) -> Resource {
-    match r.below(6) {
+    match r.below(10) {
         0 => Resource::Failed,
         1 => Resource::Null,
-        2 => Resource::List(vec![0x79, 0]),
-        3 => Resource::List(r.bytes(48).into_iter().map(|b| b & 0x7f).collect()),
-        _ => {
-            let mut list = r.bytes(46);
-            list[0] = 0x8a;
-            Resource::List(list)
-        }
+        2 => Resource::List(other_list(r)),
+        _ => Resource::List(one_list(r)),
+    }
+}
+
+/// One memory descriptor with any range, and the end tag or nothing.
+fn one_list(r: &mut Prng) -> Vec<u8> {
+    let more = r.pick(&[0, 0, 0, 1, 2, 57]);
+    let mut list = Descriptor { more, ..Descriptor::memory(r.next_u64(), r.next_u64()) }.bytes();
+    list.extend(r.pick(&[&END[..], &END, &[]]));
+    list
+}
+
+/// An I/O range ahead, an offset, an unknown tag, or a list without a range.
+fn other_list(r: &mut Prng) -> Vec<u8> {
+    let (offset, kind) = (r.next_u64(), r.pick(&[IO, IO, 2, 0xff]));
+    let memory = Descriptor { offset, ..Descriptor::memory(r.next_u64(), r.next_u64()) };
+    let ahead = Descriptor { kind, ..memory };
+    match r.below(4) {
+        0 => END.into(),
+        1 => r.bytes(48).into_iter().map(|b| b & 0x7f).collect(),
+        2 => [memory.bytes(), END.into()].concat(),
+        _ => [ahead.bytes(), memory.bytes(), END.into()].concat(),
     }
 }

@@ -10,8 +10,8 @@ use crate::plan::{AttributePlan, Fault, Later, Plan, Replies, ResourcePlan};
 use crate::registers::{BAR_DCS, RESET};
 use crate::{resources, PAGE};
 
-/// The shortest resource list that document 01 reads.
-const DESCRIPTOR: usize = 46;
+/// A list that the Rust reads otherwise than ACPI and UEFI.
+pub const OTHER_LIST: &str = "a resource list that is not one memory range";
 const LAST_BAR: u8 = 5;
 
 /// What host and card hold, for two worlds to be compared by.
@@ -216,8 +216,8 @@ impl Bus for World {
     fn resource(&mut self, index: u8) -> Resource {
         let answer = self.call(|w| resources::answer(&w.resources, &w.bars, index)).unwrap_or(Resource::Failed);
         if let Resource::List(list) = &answer {
-            if list.is_empty() || list[0] == 0x8a && list.len() < DESCRIPTOR {
-                self.outside.push("resource list shorter than its descriptor");
+            if !resources::alone(list) && !(self.resources.plain && list == &resources::END) {
+                self.outside.push(OTHER_LIST);
             }
         }
         answer

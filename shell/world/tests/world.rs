@@ -3,7 +3,8 @@
 use world::bus::{Allocation, AttributeCall, Bus, Handle, Resource};
 use world::plan::{Addresses, Behaviour, Fault, Later, OddMap, Plan, Which, NEVER};
 use world::registers::*;
-use world::{World, PAGE};
+use world::resources::{Descriptor, END};
+use world::{World, OTHER_LIST, PAGE};
 
 const GO_T1: u32 = GO | 1 << T_SHIFT;
 
@@ -225,12 +226,14 @@ fn resource_lists_by_register_and_by_count() {
 
 #[test]
 fn answers_outside_the_domain_are_told() {
-    let mut w =
-        world(|p| p.resources.odd = vec![(0, Resource::List(vec![0x8a; 45])), (1, Resource::List(vec![0x79, 0]))]);
-    w.resource(1);
-    assert_eq!(w.outside(), [""; 0]);
-    w.resource(0);
-    assert_eq!(w.outside(), ["resource list shorter than its descriptor"]);
+    let one = Descriptor::memory(0xe000_0000, 0x80_0000).bytes();
+    let (cut, moved) = (one[..45].to_vec(), Descriptor { offset: 1, ..Descriptor::memory(0, 1) }.bytes());
+    let lists = [one.clone(), [one.clone(), END.into()].concat(), cut, moved, END.into()];
+    for (list, outside) in lists.into_iter().zip([false, false, true, true, true]) {
+        let mut w = world(|p| p.resources.odd = vec![(0, Resource::List(list.clone()))]);
+        w.resource(0);
+        assert_eq!(w.outside(), vec![OTHER_LIST; outside.into()], "{list:02x?}");
+    }
     let mut w = world(|p| p.card.replies.aux_pages = 1 << 52);
     post(&mut w, SET_ICM_SIZE, 0, 0, 0);
     assert_eq!(w.outside(), ["auxiliary pages whose bytes pass 2^64"]);

@@ -6,6 +6,8 @@ use world::prng::Prng;
 use world::registers::RESERVED;
 use world::PAGE;
 
+use crate::lists;
+
 use super::piece::{Piece, Records};
 use super::pool::{Arguments, Bytes, Step, Stop};
 use super::{Function, FUNCTIONS};
@@ -325,8 +327,11 @@ fn any_answer(r: &mut Prng, stop: &Stop) -> [u64; 3] {
     }
 }
 
-/// A resource list of any length and bytes, half of them with the tag of one.
+/// A resource list, or any bytes, some of them with the tag of one.
 fn resource(r: &mut Prng) -> Vec<u8> {
+    if r.one_in(2) {
+        return lists::any(r);
+    }
     let length = r.pick(&[0, 0, 1, 14, 45, 46, 47, 64, 400]);
     let mut list = r.bytes(length);
     if let Some(first) = list.first_mut().filter(|_| r.one_in(2)) {

@@ -5,6 +5,7 @@ use oracle::machines::{Command, Part};
 use world::bus::{Allocation, Handle, Resource};
 use world::calls::Form;
 use world::prng::Prng;
+use world::resources::{Descriptor, END};
 use world::PAGE;
 
 use super::script::{Faults, Plan, Sequence};
@@ -287,24 +288,18 @@ fn find_bar(r: &mut Prng, mut plan: Plan) -> Plan {
     plan
 }
 
-/// Nothing, a list that is no memory range, or a range that is the one wanted or not.
+/// Nothing, or one memory range that is the one wanted or not: what the Rust reads as the documents do.
 fn list(r: &mut Prng, want: u64) -> Resource {
     match r.below(8) {
-        0 => return Resource::Failed,
-        1 => return Resource::Null,
+        0 | 1 => return Resource::Failed,
+        2 => return Resource::Null,
         _ => {}
     }
-    let tag = r.pick(&[0x8a, 0x8a, 0x8a, 0x8a, 0x8b, 0x79, 0x00]);
-    // A range of fewer bytes lies outside the domain.
-    let length = if tag == 0x8a { r.pick(&[46, 47, 48, 64]) } else { r.pick(&[1, 2, 46, 48]) };
-    let mut bytes = r.bytes(length);
-    bytes[0] = tag;
-    if length >= 46 {
-        let any = r.next_u64();
-        let base = r.pick(&[want, want, 0, want ^ 0x10, any]);
-        let size = r.pick(&[0, 1, 0x1000, 0x80_0000, u64::MAX]);
-        bytes[14..22].copy_from_slice(&base.to_le_bytes());
-        bytes[38..46].copy_from_slice(&size.to_le_bytes());
-    }
+    let any = r.next_u64();
+    let base = r.pick(&[want, want, 0, want ^ 0x10, any]);
+    let size = r.pick(&[0, 1, 0x1000, 0x80_0000, u64::MAX]);
+    let more = r.pick(&[0, 0, 1, 18]);
+    let mut bytes = Descriptor { more, ..Descriptor::memory(base, size) }.bytes();
+    bytes.extend(r.pick(&[&END[..], &[]]));
     Resource::List(bytes)
 }

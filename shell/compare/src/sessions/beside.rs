@@ -203,6 +203,31 @@ pub fn same(case: &Case) -> Result<Option<Run>, Box<Difference>> {
     kept.map(|()| Some(rust))
 }
 
+/// The parts of a run, its resource lists without their bytes.
+fn unlisted(ran: &Ran) -> Parts {
+    let line = |line: &str| match line.split_once(" -> ") {
+        Some((asked, answer)) if asked.starts_with("bar ") && !matches!(answer, "fail" | "null") => format!("{asked} -> list"),
+        _ => line.to_string(),
+    };
+    parts(ran).into_iter().map(|(name, text)| (name, text.lines().map(line).collect::<Vec<_>>().join("\n"))).collect()
+}
+
+/// Compares a case whose resource lists the Rust may read otherwise than ACPI and UEFI: it is told what these documents read
+/// in them. Nothing where a list is bad, or the case lies outside the domain otherwise.
+pub fn same_read(case: &Case) -> Result<Option<Run>, Box<Difference>> {
+    let mut plain = case.clone();
+    plain.plan.resources.plain = true;
+    let Some(rust) = rust(&plain) else {
+        return Ok(None);
+    };
+    let mut ours = ours(case);
+    if !ours.seen {
+        ours.ran.outbox.clone_from(&rust.ran.outbox);
+    }
+    Difference::of_runs(&case.name, &unlisted(&rust.ran), &unlisted(&ours.ran), Parts::clone)?;
+    Ok(Some(rust))
+}
+
 /// At the end the books have exactly the pages that were not given back.
 pub(crate) fn books_fit(case: &str, books: &session::Books, holdings: &Holdings) -> Result<(), Box<Difference>> {
     let mut held: Vec<u64> = books.buffers().map(|b| b.handle).collect();

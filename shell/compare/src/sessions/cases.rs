@@ -6,6 +6,8 @@ use world::prng::Prng;
 use world::registers::*;
 use world::results::Undo;
 
+use crate::lists;
+
 /// A session: the world's plan, the read of the status dword that shows GO whatever the card shows, the undo records that
 /// are pushed on the open session, and whether it is closed.
 #[derive(Clone, Debug)]
@@ -178,6 +180,9 @@ pub fn seeded(seed: u64) -> Case {
     let mut plan = Plan::seeded(seed);
     if r.one_in(3) {
         plan.faults.push(Fault { call: r.below(1_400), taken: r.one_in(2) });
+    }
+    if r.one_in(100) {
+        plan.resources.odd.insert(0, (r.below(6) as u8, Resource::List(lists::damaged(&mut r))));
     }
     let go_at = r.one_in(40).then(|| r.below(200));
     let records = r.pick(&[0, 0, 1, 2, 3, 5, 20]);
