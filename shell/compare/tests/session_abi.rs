@@ -493,7 +493,7 @@ fn words_that_are_no_question() {
 #[test]
 fn lists_that_are_cut() {
     let memory = Descriptor::memory(0xe000_0000, 8 << 20);
-    for more in [0, 1, LIST_BYTES - 139, LIST_BYTES - 138, LIST_BYTES, 65_492] {
+    for more in [0, 1, LIST_BYTES - 92, LIST_BYTES - 91, LIST_BYTES, 65_492] {
         let ahead = Descriptor { kind: IO, more, ..memory };
         let list = [ahead.bytes(), memory.bytes(), memory.bytes(), END.into()].concat();
         let mut case = cases::variants()[7].clone();

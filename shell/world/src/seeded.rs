@@ -4,7 +4,7 @@
 use crate::bus::Resource;
 use crate::plan::*;
 use crate::prng::Prng;
-use crate::resources::{Descriptor, END, IO};
+use crate::resources::{Descriptor, END, ENDS, IO};
 
 pub fn plan(seed: u64) -> Plan {
     let mut r = Prng::new(seed);
@@ -250,7 +250,7 @@ fn odd_resource(r: &mut Prng) -> Resource {
 fn one_list(r: &mut Prng) -> Vec<u8> {
     let more = r.pick(&[0, 0, 0, 1, 2, 57]);
     let mut list = Descriptor { more, ..Descriptor::memory(r.next_u64(), r.next_u64()) }.bytes();
-    list.extend(r.pick(&[&END[..], &END, &[]]));
+    list.extend(r.pick(&ENDS));
     list
 }
 

@@ -6,8 +6,7 @@ use std::collections::BTreeMap;
 use std::process::ExitCode;
 
 use compare::program;
-use compare::sessions::beside::{ours, same, same_read, Ran, Run};
-use compare::sessions::beside::Difference;
+use compare::sessions::beside::{ours, same, same_read, Difference, Ran, Run};
 use compare::sessions::cases::{self, Case};
 
 const USAGE: &str = "sessions [FIRST [COUNT]]";

@@ -5,7 +5,7 @@ use oracle::machines::{Command, Part};
 use world::bus::{Allocation, Handle, Resource};
 use world::calls::Form;
 use world::prng::Prng;
-use world::resources::{Descriptor, END};
+use world::resources::{Descriptor, ENDS};
 use world::PAGE;
 
 use super::script::{Faults, Plan, Sequence};
@@ -300,6 +300,6 @@ fn list(r: &mut Prng, want: u64) -> Resource {
     let size = r.pick(&[0, 1, 0x1000, 0x80_0000, u64::MAX]);
     let more = r.pick(&[0, 0, 1, 18]);
     let mut bytes = Descriptor { more, ..Descriptor::memory(base, size) }.bytes();
-    bytes.extend(r.pick(&[&END[..], &[]]));
+    bytes.extend(r.pick(&ENDS));
     Resource::List(bytes)
 }

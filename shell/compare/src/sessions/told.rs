@@ -17,7 +17,7 @@ pub fn closing(c: session::Closing) -> Closing {
 pub(crate) fn values(r: session::Refusal) -> Vec<u64> {
     use session::Refusal::*;
     match r {
-        Attributes | Owner | Reset | Bar | Memory | NotPrimary | Address | Reserved | Undo => Vec::new(),
+        Attributes | Owner | Reset | Bar | Memory | NotPrimary | Address | Reserved | Undo | List => Vec::new(),
         Busy => vec![0],
         Status { status, us } => vec![status.into(), us],
         Timeout { us } | Bus { us } => vec![us],
