@@ -6,9 +6,9 @@ use oracle::run::{self, Driver, SharedWorld};
 use world::bus::Resource;
 use world::calls::{self, Call};
 use world::plan::Plan;
-use world::OTHER_LIST;
 use world::results::{Closing, Given, Outcome, Stop};
 use world::trace::{Event, Trace};
+use world::OTHER_LIST;
 
 /// How many seeds are run: 3,000, or what the environment variable SEEDS says.
 fn seeds() -> u64 {

@@ -206,7 +206,9 @@ pub fn same(case: &Case) -> Result<Option<Run>, Box<Difference>> {
 /// The parts of a run, its resource lists without their bytes.
 fn unlisted(ran: &Ran) -> Parts {
     let line = |line: &str| match line.split_once(" -> ") {
-        Some((asked, answer)) if asked.starts_with("bar ") && !matches!(answer, "fail" | "null") => format!("{asked} -> list"),
+        Some((asked, answer)) if asked.starts_with("bar ") && !matches!(answer, "fail" | "null") => {
+            format!("{asked} -> list")
+        }
         _ => line.to_string(),
     };
     parts(ran).into_iter().map(|(name, text)| (name, text.lines().map(line).collect::<Vec<_>>().join("\n"))).collect()

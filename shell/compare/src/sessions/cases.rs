@@ -1,5 +1,6 @@
 //! What is run: chosen plans with one thing changed in turn, and plans by seed.
 
+use session::LIST_BYTES;
 use world::bus::Resource;
 use world::plan::{put_be16, put_be64, Addresses, Behaviour, Fault, Plan, Which, NEVER};
 use world::prng::Prng;
@@ -181,8 +182,9 @@ pub fn seeded(seed: u64) -> Case {
     if r.one_in(3) {
         plan.faults.push(Fault { call: r.below(1_400), taken: r.one_in(2) });
     }
-    if r.one_in(100) {
-        plan.resources.odd.insert(0, (r.below(6) as u8, Resource::List(lists::damaged(&mut r))));
+    // One that is longer would be cut on its way to the session.
+    if let Some(list) = r.one_in(100).then(|| lists::damaged(&mut r)).filter(|l| l.len() <= LIST_BYTES) {
+        plan.resources.odd.insert(0, (r.below(6) as u8, Resource::List(list)));
     }
     let go_at = r.one_in(40).then(|| r.below(200));
     let records = r.pick(&[0, 0, 1, 2, 3, 5, 20]);
