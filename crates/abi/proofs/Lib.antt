@@ -1,5 +1,6 @@
 pub mod Calls
 pub mod Kept
+pub mod Left
 pub mod Numbers
 pub mod Poll
 pub mod Polled

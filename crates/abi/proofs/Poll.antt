@@ -14,9 +14,13 @@ use Rattle.hcr.proofs.Laws.{no-sooner}
 use Rattle.words.specs.Words.{at, wordsIn, putWords, bitOf}
 use Rattle.words.proofs.Laws.{BytesFrom, bit-back, put-append, words-after, words-agree, words-same, length-words}
 use Rattle.words_task.specs.Coding.{taskWords, taskOf, cmdWords, cmdOf, phaseWords, catasWords}
-use Rattle.words_session.specs.Image.{decodeOf, encodedIn, putHot}
+use Rattle.words.specs.Places.{stateBytes}
+use Rattle.words_session.specs.Image.{decodeOf, putTask}
 use Rattle.words_laws.specs.Kept.{withTask}
-use Rattle.words_laws.proofs.Poll.{given, counts-of, parts-of, poll-alone}
+use Rattle.words_laws.proofs.Parts.{given, decode-parts}
+use Rattle.behind.proofs.Laws.{put-long}
+use Rattle.intask.specs.InTask.{besideIn}
+use Rattle.booking.specs.Booking.{isDeal}
 use Rattle.command.specs.Script.{STALLS}
 use Rattle.command.specs.Machine.{inPhase, stalledBy, posted, cmdAsks, cmdStepOf}
 use Rattle.command.specs.declared.Cmd.{Cmd}
@@ -27,12 +31,16 @@ use Rattle.work.specs.declared.Task.{Task}
 use Rattle.work.specs.declared.Task.the-variants as t
 use Rattle.work.specs.Work.{workStepOf}
 use Rattle.work.specs.declared.Ending.the-variants as e
-use Rattle.fw_plan.specs.Calls.{asksOf, isAllocate, stepOf, stepIn, stepOut}
+use Rattle.work.specs.declared.WorkStep.{WorkStep}
+use Rattle.fw_plan.specs.Calls.{asksOf, isAllocate, wants, answersBy, bookedBy, stepOf, stepIn, stepOut}
 use Rattle.words_calls.specs.Calls.{turnIn}
 use Rattle.pci.specs.Suits.{suitsOf}
 use Rattle.pci.specs.declared.Question.{Question}
+use Rattle.pci.specs.declared.Question.the-variants as q
 use Rattle.pci.specs.declared.Answer.{Answer}
 use Rattle.pci.specs.declared.Answer.the-variants as a
+use Rattle.session.specs.Course.{Place, neither, inbox, outbox, slot}
+use Rattle.session.specs.declared.Books.{Books}
 use Rattle.session.specs.declared.Top.{Top}
 use Rattle.session.specs.declared.Session.{Session}
 use Rattle.in_place.specs.InPlace.{after as comes, nextOf, firstWords, readyFor, onwardOf, goesOn, stateAfter, asked, outAfter}
@@ -41,6 +49,11 @@ use Rattle.in_place.specs.declared.Next.the-variants as n
 use Rattle.abi.specs.Turns.{After, after, answerKnown, answered}
 use Rattle.abi.specs.Calls.{onwardBy, answer}
 use Rattle.abi.proofs.Calls.{not-so}
+use Rattle.abi.proofs.Turns.{head-known}
+
+-- the task's words, where there are so many bytes
+abbrev pub putHot : List ℕ → Task → List ℕ
+putHot s k = putWords s 0 (taskWords k)
 
 -- THE COMMAND THAT GOES ON, by what comes next
 abbrev pub onTo : Cmd → Next → Cmd
@@ -74,6 +87,7 @@ Known c n.Other = Unit {0}
 pub record Took (c : Cmd) (x : Answer) (z : Next) : Type 0 where
   pub suits : suitsOf (cmdAsks c) x ≡ true
   pub still : isAllocate (cmdAsks c) ≡ false
+  pub deal : isDeal (cmdAsks c) ≡ false
   pub step : cmdStepOf c x ≡ cs.More (onTo c z)
   pub known : Known c z
 
@@ -85,49 +99,49 @@ module _ (c : Cmd) (v : ℕ) where
   first-takes : c .phase ≡ ph.First → (b : Bool) → pendingIn (swapOf v) (c .toggle) ≡ b → Takes c (a.Dword v) (pick b n.Other (n.Write 0))
   unfolding cmdAsks cmdStepOf
   first-takes h true e g = not-so g
-  first-takes h false e g = record { suits = simp (h); still = simp (h); step = simp (h, e); known = omega arith }
+  first-takes h false e g = record { suits = simp (h); still = simp (h); deal = simp (h); step = simp (h, e); known = omega arith }
 
   poll-takes : c .phase ≡ ph.Poll → (b d : Bool) → pendingIn (swapOf v) (c .toggle) ≡ b → ltb (c .stalls) STALLS ≡ d
       → Takes c (a.Dword v) (pick b (pick d (n.Stall (stallOf (c .stalls))) n.Other) n.Fenced)
   unfolding cmdAsks cmdStepOf
   poll-takes h true true e d g =
       let soon = lt-leb 60000000 (waitedOf (c .stalls)) (no-sooner (c .stalls) (ltb-true (c .stalls) STALLS d)) in
-      record { suits = simp (h); still = simp (h); step = simp (h, e, soon); known = refl }
+      record { suits = simp (h); still = simp (h); deal = simp (h); step = simp (h, e, soon); known = refl }
   poll-takes h true false e d g = not-so g
-  poll-takes h false b e d g = record { suits = simp (h); still = simp (h); step = simp (h, e); known = tt }
+  poll-takes h false b e d g = record { suits = simp (h); still = simp (h); deal = simp (h); step = simp (h, e); known = tt }
 
   status-takes : c .phase ≡ ph.Status → (b : Bool) → eqb (statusIn (swapOf v)) 0 ≡ b → Takes c (a.Dword v) (pick b n.High n.Other)
   unfolding cmdAsks cmdStepOf
-  status-takes h true e g = record { suits = simp (h); still = simp (h); step = simp (h, e); known = tt }
+  status-takes h true e g = record { suits = simp (h); still = simp (h); deal = simp (h); step = simp (h, e); known = tt }
   status-takes h false e g = not-so g
 
   high-takes : c .phase ≡ ph.High → Takes c (a.Dword v) (n.Low (swapOf v))
   unfolding cmdAsks cmdStepOf
-  high-takes h g = record { suits = simp (h); still = simp (h); step = simp (h); known = omega arith }
+  high-takes h g = record { suits = simp (h); still = simp (h); deal = simp (h); step = simp (h); known = omega arith }
 
 -- a write, a fence or a stall was made
 module _ (c : Cmd) where
   write-takes : (i : ℕ) → c .phase ≡ ph.Writing i → (b : Bool) → ltb i 5 ≡ b → Takes c a.Done (pick b (n.Write (i + 1)) n.Fence)
   unfolding cmdAsks cmdStepOf
-  write-takes i h true e g = let l = ltb-true i 5 e in record { suits = simp (h); still = simp (h); step = simp (h, e); known = omega arith }
-  write-takes i h false e g = record { suits = simp (h); still = simp (h); step = simp (h, e); known = tt }
+  write-takes i h true e g = let l = ltb-true i 5 e in record { suits = simp (h); still = simp (h); deal = simp (h); step = simp (h, e); known = omega arith }
+  write-takes i h false e g = record { suits = simp (h); still = simp (h); deal = simp (h); step = simp (h, e); known = tt }
 
   fence-takes : c .phase ≡ ph.Fence → Takes c a.Done n.Go
   unfolding cmdAsks cmdStepOf
-  fence-takes h g = record { suits = simp (h); still = simp (h); step = simp (h); known = tt }
+  fence-takes h g = record { suits = simp (h); still = simp (h); deal = simp (h); step = simp (h); known = tt }
 
   go-takes : c .phase ≡ ph.Go → Takes c a.Done (n.Posted (bitOf (not (c .toggle))))
   unfolding cmdAsks cmdStepOf
-  go-takes h g = record { suits = simp (h); still = simp (h); step = simp (h); known = refl }
+  go-takes h g = record { suits = simp (h); still = simp (h); deal = simp (h); step = simp (h); known = refl }
 
   wait-takes : c .phase ≡ ph.Wait → (b : Bool) → ltb (c .stalls) STALLS ≡ b → Takes c a.Done (pick b (n.Read (c .stalls + 1)) n.Other)
   unfolding cmdAsks cmdStepOf
-  wait-takes h true e g = let l = ltb-true (c .stalls) STALLS e in record { suits = simp (h); still = simp (h); step = simp (h, e); known = omega arith }
+  wait-takes h true e g = let l = ltb-true (c .stalls) STALLS e in record { suits = simp (h); still = simp (h); deal = simp (h); step = simp (h, e); known = omega arith }
   wait-takes h false e g = not-so g
 
   fenced-takes : c .phase ≡ ph.Fenced → Takes c a.Done n.Status
   unfolding cmdAsks cmdStepOf
-  fenced-takes h g = record { suits = simp (h); still = simp (h); step = simp (h); known = tt }
+  fenced-takes h g = record { suits = simp (h); still = simp (h); deal = simp (h); step = simp (h); known = tt }
 
 -- EVERY ANSWER, by the phase
 module _ (c : Cmd) where
@@ -252,7 +266,7 @@ module _ (s : List ℕ) (c : Cmd) (b : Bytes s) (d : wordsIn s 0 13 ≡ cmdWords
       (words-agree polling s 10 3 (λ i g l. far i (omega arith)) ∙ ap (λ (w : List ℕ). at w 10 ∷ at w 11 ∷ at w 12 ∷ []) d)
 
   -- what is written is the task that goes on
-  module _ (long : 3336 ≤ length s) where
+  module _ (long : stateBytes ≤ length s) where
     to : (f : Phase) → pick (leb 24 (length s)) (putWords s 1 (at (phaseWords f) 0 ∷ at (phaseWords f) 1 ∷ [])) s ≡ putHot s (t.Cmd (inPhase c f))
     to f = rw (le-leb 24 (length s) (omega arith)) (sym (phase-bytes f))
 
@@ -273,7 +287,7 @@ module _ (s : List ℕ) (c : Cmd) (b : Bytes s) (d : wordsIn s 0 13 ≡ cmdWords
     written n.Other g k = not-so g
 
 -- THE QUESTION: that of the task that goes on
-pub asks-on : (s : List ℕ) (c : Cmd) → 3336 ≤ length s → cmdOf (wordsIn s 0 13) ≡ c → (z : Next) → goesOn z ≡ true → Known c z → asked z s ≡ cmdAsks (onTo c z)
+pub asks-on : (s : List ℕ) (c : Cmd) → stateBytes ≤ length s → cmdOf (wordsIn s 0 13) ≡ c → (z : Next) → goesOn z ≡ true → Known c z → asked z s ≡ cmdAsks (onTo c z)
 unfolding cmdAsks wordsIn
 asks-on s c long e (n.Write i) g k = rw (le-leb 72 (length s) (omega arith)) (ap (λ (y : Cmd). cmdAsks (inPhase y (ph.Writing i))) e)
 asks-on s c long e n.Fence g k = refl
@@ -297,19 +311,19 @@ not-true true e = not-so e
 not-true false e = refl
 
 pub record Ready (s i b : List ℕ) (m : ℕ) (w : List ℕ) : Type 0 where
-  pub enough : 3336 ≤ length s
+  pub enough : stateBytes ≤ length s
   pub lent : eqb (length i) 4096 && (eqb (length b) 4096 && leb m 256) ≡ true
   pub room : ltb (length w) 40 ≡ false
 
 pub ready : (s i b : List ℕ) (m : ℕ) (w : List ℕ) → readyFor s i b m w ≡ true → Ready s i b m w
 ready s i b m w e =
-    let q = and-true (not (ltb (length s) 3336)) (eqb (length i) 4096 && (eqb (length b) 4096 && (not (ltb 256 m) && leb 40 (length w)))) e in
+    let q = and-true (not (ltb (length s) stateBytes)) (eqb (length i) 4096 && (eqb (length b) 4096 && (not (ltb 256 m) && leb 40 (length w)))) e in
     let q1 = and-true (eqb (length i) 4096) (eqb (length b) 4096 && (not (ltb 256 m) && leb 40 (length w))) (q .1) in
     let q2 = and-true (eqb (length b) 4096) (not (ltb 256 m) && leb 40 (length w)) (q1 .1) in
     let q3 = and-true (not (ltb 256 m)) (leb 40 (length w)) (q2 .1) in
     let few : m ≤ 256 = ltb-false 256 m (not-true (ltb 256 m) (q3 .0)) in
     record {
-      enough = ltb-false (length s) 3336 (not-true (ltb (length s) 3336) (q .0));
+      enough = ltb-false (length s) stateBytes (not-true (ltb (length s) stateBytes) (q .0));
       lent = rw (q1 .0, q2 .0, le-leb m 256 few) refl;
       room = le-ltb (length w) 40 (leb-true 40 (length w) (q3 .1));
     }
@@ -318,22 +332,48 @@ ready s i b m w e =
 pub record Goes (x : Session) (v : Answer) (r : List ℕ) (k : Task) : Type 0 where
   pub suits : suitsOf (asksOf x) v ≡ true
   pub still : isAllocate (asksOf x) ≡ false
+  pub deal : isDeal (asksOf x) ≡ false
+  pub beside : (z : WorkStep) (s : List ℕ) → besideIn (x .work .task) z s ≡ s
   pub next : workStepOf (x .work) v r ≡ record { work = record { task = k; reset = x .work .reset; find = x .work .find }; ending = e.Going }
 
-goes-whole : (x : Session) (v : Answer) (r : List ℕ) (u : Top) (s i b w : List ℕ) (k : Task) → Bytes s → decodeOf s ≡ value x → Ready s i b (u .count) w
+-- a question that deals in no pages leaves the books
+not-dealt : (i w : ℕ) (y : Question) (v : Answer) (l : Books) → isDeal y ≡ false → answersBy i w y v l ≡ l
+not-dealt i w (q.ConfigRead16 o) v l h = refl
+not-dealt i w (q.ConfigRead32 o) v l h = refl
+not-dealt i w (q.ConfigWrite16 o z) v l h = refl
+not-dealt i w (q.ConfigWrite32 o z) v l h = refl
+not-dealt i w (q.RegRead k o) v l h = refl
+not-dealt i w (q.RegWrite k o z) v l h = refl
+not-dealt i w (q.Attributes o z) v l h = refl
+not-dealt i w (q.Resource k) v l h = refl
+not-dealt i w (q.Stall us) v l h = refl
+not-dealt i w (q.Allocate n) v l h = not-so (sym h)
+not-dealt i w (q.Map k n) v l h = not-so (sym h)
+not-dealt i w (q.Unmap k) v l h = not-so (sym h)
+not-dealt i w (q.Free k n) v l h = not-so (sym h)
+not-dealt i w q.Fence v l h = refl
+not-dealt i w q.Finished v l h = refl
+
+pub no-deal : (p : Place) (y : Question) (v : Answer) (l : Books) → isDeal y ≡ false → bookedBy p y v l ≡ l
+no-deal neither y v l h = refl
+no-deal inbox y v l h = not-dealt 80 0 y v l h
+no-deal outbox y v l h = not-dealt 81 0 y v l h
+no-deal (slot i w) y v l h = not-dealt i w y v l h
+
+goes-whole : (x : Session) (v : Answer) (r : List ℕ) (u : Top) (s i b w : List ℕ) (k : Task) → decodeOf s ≡ value x → Ready s i b (u .count) w
     → Goes x v r k → after 0 (putHot s k) i b (turnIn w (asksOf (withTask x k)) (u .count)) ≡ answered v r u s i b w
 unfolding answered answerKnown stepOf stepIn stepOut
-goes-whole x v r u s i b w k bs d y g =
-    let h = given s x d in
-    let m = counts-of s x (h .stand) in
-    let wrote : encodedIn s (withTask x k) ≡ putHot s k = rw (le-ltb (length s) 3336 (y .enough)) (poll-alone s x k bs d) in
-    sym (simp (d, le-leb (x .books .lists .ranges) 14 (m .0), le-leb (x .books .lists .lends) 64 (m .1), g .suits, y .lent, y .room, g .next, g .still, wrote))
+goes-whole x v r u s i b w k d y g =
+    let p = decode-parts s x d in
+    let wrote : putTask k s ≡ putHot s k = sym (put-long 0 (taskWords k) s (y .enough)) in
+    let booked : bookedBy (wants x) (asksOf x) v (x .books) ≡ x .books = no-deal (wants x) (asksOf x) v (x .books) (g .deal) in
+    sym (simp (head-known s x d, le-leb (x .books .lists .ranges) 14 (p .ranges), le-leb (x .books .lists .lends) 64 (p .lends), g .suits, y .lent, y .room, booked, g .next, g .still, g .deal, g .beside, wrote))
 
 -- the words of the task
 pub task-words : (s : List ℕ) (x : Session) → decodeOf s ≡ value x → wordsIn s 0 13 ≡ taskWords (x .work .task)
-task-words s x d = let h = given s x d in parts-of s x (h .reads) (h .stand) .task
+task-words s x d = decode-parts s x d .task .0
 
-task-next : (s : List ℕ) (x : Session) (v : Answer) → decodeOf s ≡ value x → 3336 ≤ length s → nextOf (firstWords s) v ≡ nextOf (taskWords (x .work .task)) v
+task-next : (s : List ℕ) (x : Session) (v : Answer) → decodeOf s ≡ value x → stateBytes ≤ length s → nextOf (firstWords s) v ≡ nextOf (taskWords (x .work .task)) v
 unfolding wordsIn
 task-next s x v d h =
     let near : nextOf (firstWords s) v ≡ nextOf (wordsIn s 0 13) v = rw (le-leb 80 (length s) (omega arith)) (firsts v) in
@@ -397,7 +437,7 @@ module _ (v : Answer) (r : List ℕ) (u : Top) (s i b w : List ℕ) (x : Session
         cmd = m .cmd;
         is = m .is;
         took = took;
-        goes = record { suits = simp (m .is, took .suits); still = simp (m .is, took .still); next = simp (m .is, took .step) };
+        goes = record { suits = simp (m .is, took .suits); still = simp (m .is, took .still); deal = simp (m .is, took .deal); beside = λ z s. ap (λ (k : Task). besideIn k z s) (m .is); next = simp (m .is, took .step) };
         bytes = written s (m .cmd) bs (task-words s x d ∙ ap taskWords (m .is)) (y .enough) z g (took .known);
       }
 
@@ -407,7 +447,7 @@ module _ (v : Answer) (r : List ℕ) (u : Top) (s i b w : List ℕ) (x : Session
       let asks = asks-on s (o .cmd) (y .enough) (task-cmd s x (o .cmd) d (o .is)) z g (o .took .known) in
       let out : outAfter z s w (u .count) ≡ turnIn w (asksOf (withTask x (t.Cmd (onTo (o .cmd) z)))) (u .count) = rw g (ap (λ (p : Question). turnIn w p (u .count)) asks) in
       ap (λ (l : List ℕ). after 0 l i b (outAfter z s w (u .count))) (o .bytes) ∙ ap (λ (l : List ℕ). after 0 (putHot s (t.Cmd (onTo (o .cmd) z))) i b l) out
-      ∙ goes-whole x v r u s i b w (t.Cmd (onTo (o .cmd) z)) bs d y (o .goes)
+      ∙ goes-whole x v r u s i b w (t.Cmd (onTo (o .cmd) z)) d y (o .goes)
 
 -- AN ANSWER by the words of its command is the answer by the whole session
 pub poll-is-whole : (v : Answer) (r : List ℕ) (u : Top) (s i b w : List ℕ) (x : Session) → Bytes s → decodeOf s ≡ value x → answer v r u s i b w ≡ answered v r u s i b w

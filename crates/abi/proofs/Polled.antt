@@ -10,18 +10,21 @@ use Rattle.fields.specs.Outcome.{Outcome, value, refused}
 use Rattle.fields.specs.declared.Order.the-variants.{Little}
 use Rattle.fields.proofs.Laws.{Bytes, number-lt}
 use Rattle.words.specs.Words.{wordAt, wordsIn}
-use Rattle.words_task.specs.Coding.{cmdOf, catasOf}
-use Rattle.words_task.specs.Fits.{CatasFits, PhaseFits, CmdFits}
+use Rattle.words_task.specs.Coding.{cmdOf, catasOf, taskWords}
+use Rattle.words_task.specs.Fits.{CatasFits, PhaseFits, CmdFits, TaskFits}
 use Rattle.words_session.specs.Image.{decodeOf}
 use Rattle.words_laws.specs.Kept.{withTask}
-use Rattle.words_laws.proofs.Poll.{given, counts-of, polled}
+use Rattle.words_laws.proofs.Parts.{decode-parts, parts-decode}
+use Rattle.words_laws.proofs.Put.{put-task}
+use Rattle.behind.proofs.Laws.{put-long}
+use Rattle.words_session.specs.Image.{coreOf, behindOf}
 use Rattle.command.specs.Machine.{inPhase, stalledBy, posted}
 use Rattle.command.specs.declared.Cmd.{Cmd}
 use Rattle.command.specs.declared.Phase.{Phase}
 use Rattle.command.specs.declared.Phase.the-variants as ph
 use Rattle.work.specs.declared.Task.{Task}
 use Rattle.work.specs.declared.Task.the-variants as t
-use Rattle.fw_plan.specs.Calls.{stepOf}
+use Rattle.fw_plan.specs.Calls.{asksOf, wants, bookedBy, stepOf}
 use Rattle.pci.specs.declared.Answer.{Answer}
 use Rattle.session.specs.declared.Top.{Top}
 use Rattle.session.specs.declared.Session.{Session}
@@ -30,7 +33,7 @@ use Rattle.in_place.specs.declared.Next.{Next}
 use Rattle.in_place.specs.declared.Next.the-variants as n
 use Rattle.abi.specs.Kept.{answerNext, knownNext, heardNext, Keeps, Holds}
 use Rattle.abi.proofs.Calls.{not-so, none, Onward}
-use Rattle.abi.proofs.Poll.{onTo, Known, Ready, Goes, task-cmd, on}
+use Rattle.abi.proofs.Poll.{onTo, Known, Ready, Goes, no-deal, putHot, task-cmd, on}
 
 -- THE COMMAND THAT WAS READ: its numbers are below the bounds of their widths, since its words were cut to them
 record Small (c : Cmd) : Type 0 where
@@ -95,8 +98,15 @@ goes-next : (x : Session) (v : Answer) (r : List ℕ) (u : Top) (s i b w : List 
     → answerNext v r u i b w x ≡ withTask x k
 unfolding answerNext stepOf
 goes-next x v r u s i b w k d y g =
-    let n = counts-of s x (given s x d .stand) in
-    simp (le-leb (x .books .lists .ranges) 14 (n .0), le-leb (x .books .lists .lends) 64 (n .1), g .suits, y .lent, y .room, g .next)
+    let p = decode-parts s x d in
+    let booked : bookedBy (wants x) (asksOf x) v (x .books) ≡ x .books = no-deal (wants x) (asksOf x) v (x .books) (g .deal) in
+    simp (le-leb (x .books .lists .ranges) 14 (p .ranges), le-leb (x .books .lists .lends) 64 (p .lends), g .suits, y .lent, y .room, booked, g .next)
+
+-- the task's words are read back
+polled : (s : List ℕ) (x : Session) (k : Task) → TaskFits k → decodeOf s ≡ value x → decodeOf (putHot s k) ≡ value (withTask x k)
+polled s x k fit d =
+    let p = decode-parts s x d in
+    ap decodeOf (put-long 0 (taskWords k) s (p .enough)) ∙ parts-decode _ _ (put-task s (coreOf x) (behindOf x) k fit p)
 
 -- THE BYTES after an answer that leads on hold what it makes of the session
 pub on-holds : (v : Answer) (r : List ℕ) (u : Top) (s i b w : List ℕ) → Bytes s → (z : Next) → onwardOf s v i b (u .count) w ≡ z → goesOn z ≡ true

@@ -4,11 +4,11 @@ use mathlib.Core.Path.{_≡_, refl}
 use mathlib.Core.List.{List}
 use borrow.Author.Tests.{le-ltb}
 use lib.ListN.{length}
-use Rattle.fields.specs.Outcome.{Outcome}
 use Rattle.words.specs.Words.{putWords}
 use Rattle.words_calls.specs.Calls.{questionWords}
 use Rattle.pci.specs.declared.Question.{Question}
 use Rattle.pci.specs.declared.Question.the-variants as q
+use Rattle.session.specs.declared.Slot.{Slot}
 use Rattle.session.specs.declared.Gave.{Gave}
 use Rattle.session.specs.declared.Gave.the-variants as g
 use Rattle.fw_plan.specs.declared.Outcome as fw
@@ -38,15 +38,15 @@ question-length (q.Unmap k) = refl
 question-length (q.Free k n) = refl
 question-length q.Fence = refl
 
-gave-length : (x : Gave) → length (gaveWords x) ≡ 5
-gave-length g.Nothing = refl
-gave-length (g.Command x y) = refl
-gave-length (g.Lent b) = refl
-gave-length (g.Failed y) = refl
+gave-length : (l : List Slot) (x : Gave) → length (gaveWords l x) ≡ 5
+gave-length l g.Nothing = refl
+gave-length l (g.Command x y) = refl
+gave-length l (g.Lent i) = refl
+gave-length l (g.Failed y) = refl
 
-pub outcome-length : (x : fw.Outcome) → length (outcomeWords x) ≡ 5
-outcome-length u.Fresh = refl
-outcome-length u.Running = refl
-outcome-length (u.Opened y) = gave-length y
-outcome-length (u.Failed y k) = refl
-outcome-length (u.Closed k) = refl
+pub outcome-length : (l : List Slot) (x : fw.Outcome) → length (outcomeWords l x) ≡ 5
+outcome-length l u.Fresh = refl
+outcome-length l u.Running = refl
+outcome-length l (u.Opened y) = gave-length l y
+outcome-length l (u.Failed y k) = refl
+outcome-length l (u.Closed k) = refl

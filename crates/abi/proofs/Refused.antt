@@ -8,7 +8,8 @@ use lib.Dec.{ltb}
 use lib.ListN.{length}
 use Rattle.fields.specs.Outcome.{Outcome, value, refused, pick}
 use Rattle.words_calls.specs.Calls.{heardOf}
-use Rattle.words_session.specs.Image.{decodeOf}
+use Rattle.words_session.specs.Image.{headOf, decodeOf}
+use Rattle.bytes_plan.specs.Left.{callLeft, answerLeft}
 use Rattle.in_place.specs.InPlace.{onwardOf, goesOn, stateAfter, outAfter}
 use Rattle.pci.specs.declared.Refusal.{Refusal}
 use Rattle.pci.specs.declared.Question.{Question}
@@ -31,16 +32,16 @@ abbrev pub Left : After → (state inbox outbox out : List ℕ) → Type 0
 Left y s i o w = (y .code ≡ 0 → ⊥) → y ≡ after (y .code) s i o w
 
 module _ (s i o w : List ℕ) where
-  taken-left : (z : Failure) (x : Session) (q : Question) (n : ℕ) (i' o' : List ℕ) → ((why : Refusal) → z ≡ f.By why → (i' ≡ i) × (o' ≡ o))
-      → Left (after (codeBy z) (stateBy z x s) i' o' (outBy z q n w)) s i o w
-  taken-left f.Nothing x q n i' o' h bad = absurd (bad refl)
-  taken-left (f.By why) x q n i' o' h bad = let e = h why refl in rw (e .0, e .1) refl
+  taken-left : (z : Failure) (q : Question) (n : ℕ) (s' i' o' : List ℕ) → ((why : Refusal) → z ≡ f.By why → (i' ≡ i) × (o' ≡ o))
+      → Left (after (codeBy z) (stateBy z s' s) i' o' (outBy z q n w)) s i o w
+  taken-left f.Nothing q n s' i' o' h bad = absurd (bad refl)
+  taken-left (f.By why) q n s' i' o' h bad = let e = h why refl in rw (e .0, e .1) refl
 
-  turned-left : (b r : Bool) (t : Turn) (i' o' : List ℕ) → ((why : Refusal) → t .refusal ≡ f.By why → (i' ≡ i) × (o' ≡ o))
-      → Left (pick b (pick r (after 21 s i o w) (taken t s i' o' w)) (after 20 s i o w)) s i o w
-  turned-left true true t i' o' h bad = refl
-  turned-left true false t i' o' h bad = taken-left (t .refusal) (t .session) (t .question) (t .undo) i' o' h bad
-  turned-left false r t i' o' h bad = refl
+  turned-left : (b r : Bool) (t : Turn) (s' i' o' : List ℕ) → ((why : Refusal) → t .refusal ≡ f.By why → (i' ≡ i) × (o' ≡ o))
+      → Left (pick b (pick r (after 21 s i o w) (taken t s' s i' o' w)) (after 20 s i o w)) s i o w
+  turned-left true true t s' i' o' h bad = refl
+  turned-left true false t s' i' o' h bad = taken-left (t .refusal) (t .question) (t .undo) s' i' o' h bad
+  turned-left false r t s' i' o' h bad = refl
 
   on-left : (z : Outcome Session) (k : Session → After) → ((x : Session) → Left (k x) s i o w) → Left (onSession z k s i o w) s i o w
   on-left (value x) k h bad = h x bad
@@ -50,13 +51,13 @@ module _ (s i o w : List ℕ) where
   pub called-left : (c : Call) (y : List ℕ) (u : Top) → Left (called c y u s i o w) s i o w
   unfolding called callKnown
   called-left c y u =
-      on-left (decodeOf s) (λ x. callKnown x c y u s i o w) (λ x. turned-left (callable x c) (ltb (length w) 40) (callOf x c y i o u) (callIn x c y i o u) (callOut x c y i o u) (call-left x c y i o u))
+      on-left (decodeOf s) (λ x. callKnown x c y u s i o w) (λ x. turned-left (callable x c) (ltb (length w) 40) (callOf x c y i o u) (callLeft c (callOf x c y i o u .session) s) (callIn x c y i o u) (callOut x c y i o u) (call-left x c y i o u))
 
   pub answered-left : (a : Answer) (r : List ℕ) (u : Top) → Left (answered a r u s i o w) s i o w
   unfolding answered answerKnown
   answered-left a r u =
-      on-left (decodeOf s) (λ x. answerKnown x a r u s i o w)
-      (λ x. turned-left (answerable x a) (ltb (length w) 40) (answerOf x a r i o u) (answerIn x a r i o u) (answerOut x a r i o u) (answer-left x a r i o u))
+      on-left (headOf s) (λ x. answerKnown x a r u s i o w)
+      (λ x. turned-left (answerable x a) (ltb (length w) 40) (answerOf x a r i o u) (answerLeft x a r o (answerOf x a r i o u .session) s) (answerIn x a r i o u) (answerOut x a r i o u) (answer-left x a r i o u))
 
   -- the same from numbers: `hca_call`, `hca_answer`
   wanted-left : (z : Outcome Call) (y : List ℕ) (u : Top) → Left (wantedBy z y u s i o w) s i o w

@@ -10,6 +10,9 @@ use Rattle.words_calls.specs.Calls.{heardOf}
 use Rattle.words_session.specs.Image.{decodeOf}
 use Rattle.pci.specs.declared.Answer.{Answer}
 use Rattle.session.specs.Session.{fresh}
+use Rattle.session.specs.Core.{full}
+use Rattle.session.specs.declared.Core.{Core}
+use Rattle.behind.specs.Behind.{behindIn}
 use Rattle.session.specs.declared.Top.{Top}
 use Rattle.session.specs.declared.Failure.{Failure}
 use Rattle.session.specs.declared.Failure.the-variants as f
@@ -63,10 +66,13 @@ Keeps s z x y = decodeOf s ≡ value x → decodeOf z ≡ value y
 unfoldable pub Holds : (before after : List ℕ) → (Session → Session) → Type 0
 Holds s z next = (x : Session) → Keeps s z x (next x)
 
--- a turn was written: the bytes, which held a session, hold the turn's, whose counts are within their arrays
-unfoldable pub Writes : Failure → Session → (before after : List ℕ) → Type 0
-Writes f.Nothing y s z = (x : Session) → Counted (y .books .lists) → Keeps s z x y
-Writes (f.By why) y s z = Unit {0}
+-- a plan was begun: where the bytes held a session, they hold z now, if its counts are within their slots
+unfoldable pub Writes : (before after : List ℕ) → Session → Type 0
+Writes s t z = (c : Core) → Counted (z .books .lists) → decodeOf s ≡ value (full c (behindIn s)) → decodeOf t ≡ value z
+
+-- the same of a step of the session x
+unfoldable pub Steps : (before after : List ℕ) → (x z : Session) → Type 0
+Steps s t x z = Counted (z .books .lists) → Keeps s t x z
 
 -- a fresh session was written: the bytes hold it
 unfoldable pub Fresh : (code : ℕ) → (after : List ℕ) → Type 0

@@ -1,18 +1,29 @@
-// The calls of a session: `open`, a client's command, `lend`, `undo_to`, `quiesce` and `close`. Each takes the session and gives it back with the question that is now
-// open, or with a refusal, which leaves everything as it was: 20, 21, 22, 19, 18 in this order.
+// The calls of a session: `open`, a client's command, `lend`, `undo_to`, `quiesce` and `close`. Each works on the head by value and on the bytes, and says which question
+// is open now; or it is refused, which leaves everything as it was: 20, 21, 22, 19, 18 in this order.
+use abi::SHORT;
+use abi::WRONG;
 use calls_plan::Call;
 use client_plan::Request;
 use dma::Pages;
+use fw_begin::Said;
 use fw_plan::Lent;
-use fw_plan::Turn;
 use pci::Refusal;
+use session::Core;
 use session::Failure;
-use session::Planned;
-use session::Session;
+use session::Plan;
 use session::Stage;
 use session::Top;
+use words_session::Kept;
 ghost use mathlib.Core.Path.{_≡_};
+ghost use Rattle.session.specs.declared.Failure.the-variants.{Nothing};
+ghost use Rattle.session.specs.Core.{Behind, full, planIn, endsAs};
+ghost use Rattle.behind.specs.Behind.{behindIn};
 ghost use Rattle.calls_plan.specs.Calls as c;
+ghost use Rattle.bytes_plan.specs.Left.{clearedIn, callLeft};
+ghost use Rattle.fw_begin.specs.Begins.{saidOf};
+ghost use Rattle.abi.specs.Turns as t;
+ghost use Rattle.abi.specs.Kept as k;
+ghost use Rattle.calls.specs.Begins.{behindFor, admittedAs, admittedNext};
 
 fn is_fresh(stage: Stage) -> bool
     ensures { λ r. ⌜ r ≡ c.isFresh stage ⌝ }
@@ -57,8 +68,8 @@ fn is_time(stage: Stage, call: Call) -> bool
 }
 
 // It is the time for the call; else it is refused with 20.
-pub fn callable(s: Session, call: Call) -> bool
-    ensures { λ r. ⌜ r ≡ c.callable s call ⌝ }
+pub fn callable(s: Core, call: Call) -> bool
+    ensures { λ r. ⌜ ((b : Behind) → r ≡ c.callable (full s b) call) ⌝ }
 {
     let stage = s.stage;
     if fw_begin::is_session(s) {
@@ -68,8 +79,8 @@ pub fn callable(s: Session, call: Call) -> bool
 }
 
 // The session is open and idle.
-pub fn is_idle(s: Session) -> bool
-    ensures { λ r. ⌜ r ≡ c.isIdle s ⌝ }
+pub fn is_idle(s: Core) -> bool
+    ensures { λ r. ⌜ ((b : Behind) → r ≡ c.isIdle (full s b)) ⌝ }
 {
     let stage = s.stage;
     if fw_begin::is_session(s) {
@@ -126,15 +137,13 @@ fn by_list(lends: usize, bytes: u64) -> Failure
 }
 
 // Why the call is refused before its first question, though it is the time for it and all is lent.
-fn barred(s: Session, call: Call) -> Failure
-    ensures { λ r. ⌜ r ≡ c.barred s call ⌝ }
+fn barred(s: Core, call: Call) -> Failure
+    ensures { λ r. ⌜ ((b : Behind) → r ≡ c.barred (full s b) call) ⌝ }
 {
-    let books = s.books;
-    let lists = books.lists;
     match call {
         Call::Open => Failure::Nothing,
         Call::Command(r) => by_opcode(hcr::reserved(r.op)),
-        Call::Lend(bytes) => by_list(lists.lends, bytes),
+        Call::Lend(bytes) => by_list(s.lends, bytes),
         Call::UndoTo(_, reserved) => by_opcode(reserved),
         Call::Quiesce => Failure::Nothing,
         Call::Close => Failure::Nothing,
@@ -142,26 +151,27 @@ fn barred(s: Session, call: Call) -> Failure
 }
 
 // The session without the failure of an earlier call.
-fn without_failure(s: Session) -> Session
-    ensures { λ r. ⌜ r ≡ c.withoutFailure s ⌝ }
+fn without_failure(s: Core) -> Core
+    ensures { λ r. ⌜ r ≡ endsAs s Nothing (s .closing) ⌝ }
 {
-    Session {
+    Core {
         failure: Failure::Nothing,
         ..s
     }
 }
 
-// How the call begins.
-fn plan(s: Session, call: Call, top: Top) -> Planned
-    ensures { λ r. ⌜ r ≡ c.planFor s call top ⌝ }
+// How the call begins. Of an opening, what stands behind the head was cleared before.
+fn plan(s: Core, call: Call, top: Top, m: &[u8]) -> Plan
+    ensures { λ r. ⌜ ((b : Behind) → behindIn (now (m .entry)) ≡ behindFor call b
+        → planIn r (behindIn (now (m .entry))) ≡ c.planFor (full s b) call top) ⌝ }
 {
     match call {
-        Call::Open => preparing::open(Session::fresh(), top),
-        Call::Command(r) => client::command(s, r, top.count),
+        Call::Open => preparing::open(Core::fresh(), top),
+        Call::Command(r) => client::command(s, r, top.count, m),
         Call::Lend(bytes) => client::lend(s, bytes, top.count),
         Call::UndoTo(mark, _) => client::undo_to(s, mark, top),
-        Call::Quiesce => closing::quiesce(s, top),
-        Call::Close => closing::stop(without_failure(s), top),
+        Call::Quiesce => closing::quiesce(s, top, m),
+        Call::Close => closing::stop(without_failure(s), top, m),
     }
 }
 
@@ -189,41 +199,65 @@ fn ready(call: Call, input: &[u8], inbox: &mut [u8])
     }
 }
 
-// The call begins.
-fn begin(
-    s: Session,
-    call: Call,
-    input: &[u8],
-    inbox: &mut [u8],
-    outbox: &mut [u8],
-    top: Top,
-) -> Turn
-    ensures { λ r. ⌜ r ≡ c.begunTurn s call (now (input .entry)) (now (inbox .entry)) top ⌝ }
-    ensures { λ _. ⌜ now (inbox .exit) ≡ c.begunInbox s call (now (input .entry)) (now (inbox .entry)) top ⌝ }
-    ensures { λ _. ⌜ now (outbox .exit) ≡ c.begunOutbox s call (now (outbox .entry)) top ⌝ }
+// An opening begins on a fresh session; every other call leaves what stands there.
+fn clear(call: Call, m: &mut [u8])
+    ensures { λ _. ⌜ now (m .exit) ≡ clearedIn call (now (m .entry)) ⌝ }
 {
-    ready(call, input, inbox);
-    let p = plan(s, call, top);
-    fw_begin::begin(p, inbox, outbox)
+    match call {
+        Call::Open => words_session::put_fresh(m),
+        Call::Command(_) => {}
+        Call::Lend(_) => {}
+        Call::UndoTo(_, _) => {}
+        Call::Quiesce => {}
+        Call::Close => {}
+    }
 }
 
-// A call in its time, with all that it must be lent.
-fn admit(
-    s: Session,
+// The call begins. Where the bytes held this session, they hold then the one that the call has made of it.
+fn begin(
+    s: Core,
     call: Call,
     input: &[u8],
     inbox: &mut [u8],
     outbox: &mut [u8],
     top: Top,
-) -> Turn
-    ensures { λ r. ⌜ r ≡ c.admitted s call (now (input .entry)) (now (inbox .entry)) top ⌝ }
-    ensures { λ _. ⌜ now (inbox .exit) ≡ c.admittedIn s call (now (input .entry)) (now (inbox .entry)) top ⌝ }
-    ensures { λ _. ⌜ now (outbox .exit) ≡ c.admittedOut s call (now (outbox .entry)) top ⌝ }
+    m: &mut [u8],
+) -> Said
+    ensures { λ r. ⌜ r ≡ saidOf (c.begunTurn (full s (behindIn (now (m .entry)))) call (now (input .entry)) (now (inbox .entry)) top) ⌝ }
+    ensures { λ _. ⌜ now (inbox .exit) ≡ c.begunInbox (full s (behindIn (now (m .entry)))) call (now (input .entry)) (now (inbox .entry)) top ⌝ }
+    ensures { λ _. ⌜ now (outbox .exit) ≡ c.begunOutbox (full s (behindIn (now (m .entry)))) call (now (outbox .entry)) top ⌝ }
+    ensures { λ _. ⌜ now (m .exit) ≡ callLeft call (c.begunTurn (full s (behindIn (now (m .entry)))) call (now (input .entry)) (now (inbox .entry)) top .session) (now (m .entry)) ⌝ }
+    ensures { λ _. ⌜ k.Keeps (now (m .entry)) (now (m .exit)) (full s (behindIn (now (m .entry)))) (c.begunTurn (full s (behindIn (now (m .entry)))) call (now (input .entry)) (now (inbox .entry)) top .session) ⌝ }
+{
+    ready(call, input, inbox);
+    clear(call, m);
+    let p = plan(s, call, top, m);
+    fw_begin::begin(p, inbox, outbox, m)
+}
+
+// A call in its time, with all that it must be lent: what it says is written, unless it is refused.
+fn admit(
+    s: Core,
+    call: Call,
+    input: &[u8],
+    inbox: &mut [u8],
+    outbox: &mut [u8],
+    top: Top,
+    m: &mut [u8],
+    out: &mut [u8],
+) -> u32
+    ensures { λ r. ⌜ t.after r (now (m .exit)) (now (inbox .exit)) (now (outbox .exit)) (now (out .exit)) ≡ admittedAs (full s (behindIn (now (m .entry)))) call (now (input .entry)) top (now (m .entry)) (now (inbox .entry)) (now (outbox .entry)) (now (out .entry)) ⌝ }
+    ensures { λ _. ⌜ k.Keeps (now (m .entry)) (now (m .exit)) (full s (behindIn (now (m .entry)))) (admittedNext (full s (behindIn (now (m .entry)))) call (now (input .entry)) (now (inbox .entry)) top) ⌝ }
 {
     let why = barred(s, call);
     match why {
-        Failure::Nothing => begin(s, call, input, inbox, outbox, top),
-        Failure::By(x) => fw_begin::refused(s, x, top.count),
+        Failure::Nothing => {
+            let said = begin(s, call, input, inbox, outbox, top, m);
+            let question = said.question;
+            words_calls::put_turn(out, question, said.undo);
+            0
+        }
+        Failure::By(x) => x.number(),
     }
 }
 
@@ -237,24 +271,51 @@ fn is_lent(call: Call, input: &[u8], inbox: &[u8], outbox: &[u8], top: Top) -> b
     false
 }
 
-// Makes a call.
-pub fn make(
-    s: Session,
+// A call on the session of a head: 20 where it is not the time for it, then 21 where there is no room for what it says, or where not enough is lent.
+fn call_of(
+    s: Core,
     call: Call,
     input: &[u8],
     inbox: &mut [u8],
     outbox: &mut [u8],
     top: Top,
-) -> Turn
-    ensures { λ r. ⌜ r ≡ c.callOf s call (now (input .entry)) (now (inbox .entry)) (now (outbox .entry)) top ⌝ }
-    ensures { λ _. ⌜ now (inbox .exit) ≡ c.callIn s call (now (input .entry)) (now (inbox .entry)) (now (outbox .entry)) top ⌝ }
-    ensures { λ _. ⌜ now (outbox .exit) ≡ c.callOut s call (now (input .entry)) (now (inbox .entry)) (now (outbox .entry)) top ⌝ }
+    m: &mut [u8],
+    out: &mut [u8],
+) -> u32
+    ensures { λ r. ⌜ t.after r (now (m .exit)) (now (inbox .exit)) (now (outbox .exit)) (now (out .exit)) ≡ t.callKnown (full s (behindIn (now (m .entry)))) call (now (input .entry)) top (now (m .entry)) (now (inbox .entry)) (now (outbox .entry)) (now (out .entry)) ⌝ }
+    ensures { λ _. ⌜ k.Keeps (now (m .entry)) (now (m .exit)) (full s (behindIn (now (m .entry)))) (k.callNext call (now (input .entry)) top (now (inbox .entry)) (now (outbox .entry)) (now (out .entry)) (full s (behindIn (now (m .entry))))) ⌝ }
 {
     if callable(s, call) {
-        if is_lent(call, input, inbox, outbox, top) {
-            return admit(s, call, input, inbox, outbox, top);
+        if out.len() < turns::TURN {
+            return SHORT;
         }
-        return fw_begin::refused(s, Refusal::Short, top.count);
+        if is_lent(call, input, inbox, outbox, top) {
+            return admit(s, call, input, inbox, outbox, top, m, out);
+        }
+        return SHORT;
     }
-    fw_begin::refused(s, Refusal::Wrong, top.count)
+    WRONG
+}
+
+// Makes a call on the session that the bytes hold.
+pub fn make(
+    state: &mut [u8],
+    call: Call,
+    input: &[u8],
+    inbox: &mut [u8],
+    outbox: &mut [u8],
+    top: Top,
+    out: &mut [u8],
+) -> u32
+    ensures { λ r. ⌜ t.after r (now (state .exit)) (now (inbox .exit)) (now (outbox .exit)) (now (out .exit)) ≡ t.called call (now (input .entry)) top (now (state .entry)) (now (inbox .entry)) (now (outbox .entry)) (now (out .entry)) ⌝ }
+    ensures { λ _. ⌜ k.Holds (now (state .entry)) (now (state .exit)) (k.callNext call (now (input .entry)) top (now (inbox .entry)) (now (outbox .entry)) (now (out .entry))) ⌝ }
+{
+    match words_session::keeps(state) {
+        Kept::Good => {
+            let s = words_session::head_at(state);
+            call_of(s, call, input, inbox, outbox, top, state, out)
+        }
+        Kept::Short => SHORT,
+        Kept::NoSession => WRONG,
+    }
 }

@@ -50,15 +50,15 @@ module _ (s : Session) (z : Request) (y : List ℕ) (h : Here) where
   abbrev ended : CmdResult → Books → Here → Course Rest
   ended a d j = gives (s .info) (s .failure) (s .closing) (gaveBy (z .form) a) (brokenBy a d) j
 
-  sent : (j : Here) → clientCourse (ku.Command (z .form)) (sendsOf s (g.Client (ku.Command (z .form))) (postOf (s .books .held) z)) j ≡ sends (s .books) (postOf (s .books .held) z) ended j
-  sent j = cl.send-leads prepareCourse bootCourse wrote s (ku.Command (z .form)) (postOf (s .books .held) z) ended (λ a j. refl) j
+  sent : (j : Here) → clientCourse (ku.Command (z .form)) (sendsOf s (g.Client (ku.Command (z .form))) (postOf (s .books) z)) j ≡ sends (s .books) (postOf (s .books) z) ended j
+  sent j = cl.send-leads prepareCourse bootCourse wrote s (ku.Command (z .form)) (postOf (s .books) z) ended refl (λ a d j. refl) j
 
   command-leads : leads (commandPlan s z (h .undo .count)) (here (inputIn (z .form) y (h .inbox)) (h .outbox) (h .undo)) ≡ commanding (s .info) (s .failure) (s .closing) z y (s .books) h
   unfolding commandPlan commanding
   command-leads = by-output (givesOutput (z .form))
     where
-      by-output : (b : Bool) → leads (planned (sendsOf s (g.Client (ku.Command (z .form))) (postOf (s .books .held) z)) (pick b w.Outbox w.Nothing) (h .undo .count)) (here (inputIn (z .form) y (h .inbox)) (h .outbox) (h .undo))
-          ≡ sends (s .books) (postOf (s .books .held) z) ended (here (inputIn (z .form) y (h .inbox)) (pick b (blank (h .outbox)) (h .outbox)) (h .undo))
+      by-output : (b : Bool) → leads (planned (sendsOf s (g.Client (ku.Command (z .form))) (postOf (s .books) z)) (pick b w.Outbox w.Nothing) (h .undo .count)) (here (inputIn (z .form) y (h .inbox)) (h .outbox) (h .undo))
+          ≡ sends (s .books) (postOf (s .books) z) ended (here (inputIn (z .form) y (h .inbox)) (pick b (blank (h .outbox)) (h .outbox)) (h .undo))
       by-output true = sent (here (inputIn (z .form) y (h .inbox)) (blank (h .outbox)) (h .undo))
       by-output false = sent (here (inputIn (z .form) y (h .inbox)) (h .outbox) (h .undo))
 

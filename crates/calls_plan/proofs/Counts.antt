@@ -1,6 +1,6 @@
 -- No call and no answer brings a count above its array: what is appended is appended where there is room. Every other step leaves the lists, or empties them. And beside it,
 -- no call but a quiesce makes a session silent.
-use Prim.Native.Nat.{ℕ, zero, suc}
+use Prim.Native.Nat.{ℕ, zero, suc, _-_}
 use native.Mathlib.Omega.{arith}
 use mathlib.Core.Bool.{Bool, true, false}
 use mathlib.Core.List.{List}
@@ -11,13 +11,19 @@ use borrow.Author.Tests.{ltb-true}
 use Rattle.fields.specs.Outcome.{Outcome, value, refused, pick}
 use Rattle.dma.specs.Buffers.{pagesFor}
 use Rattle.dma.specs.PageList.{listedOf}
-use Rattle.dma.specs.declared.Buffer.{Buffer}
 use Rattle.dma.specs.declared.Cutter.{Cutter}
 use Rattle.dma.specs.declared.Listed.{Listed}
 use Rattle.hcr.specs.Words.{isReserved}
 use Rattle.pci.specs.declared.Refusal.{Refusal}
 use Rattle.pci.specs.declared.Refusal.the-variants as x
 use Rattle.pci.specs.declared.Answer.{Answer}
+use Rattle.pci.specs.declared.Question.{Question}
+use Rattle.pci.specs.declared.Question.the-variants as q
+use Rattle.pci.specs.declared.HandleReply.{HandleReply}
+use Rattle.pci.specs.declared.HandleReply.the-variants as hr
+use Rattle.pci.specs.declared.MapReply.{MapReply}
+use Rattle.pci.specs.declared.MapReply.the-variants as mr
+use Rattle.pci.specs.Views.{grantedOf, mappedOf}
 use Rattle.command.specs.declared.CmdResult.{CmdResult}
 use Rattle.reset.specs.Reset.{isGood}
 use Rattle.buffer.specs.Buffer.{byOutcome}
@@ -42,15 +48,13 @@ use Rattle.work.specs.declared.Work.{Work}
 use Rattle.work.specs.declared.End.{End}
 use Rattle.work.specs.declared.Ending.{Ending}
 use Rattle.work.specs.declared.Ending.the-variants as e
-use Rattle.session.specs.Failures.{brokenBy, madeIn, needsReset}
-use Rattle.session.specs.Session.{tookOf, silencedOf, lentTo}
-use Rattle.session.specs.declared.Hold.{Hold}
-use Rattle.session.specs.declared.Hold.the-variants as o
-use Rattle.session.specs.declared.Icm.{Icm}
+use Rattle.session.specs.Failures.{brokenBy, madeIn, needsReset, faultOf}
+use Rattle.session.specs.Session.{tookOf, silencedOf, lentTo, slotAt, isHeld, faOf, auxOf, INBOX, OUTBOX}
+use Rattle.session.specs.Course.{Place}
+use Rattle.session.specs.Course as pl
 use Rattle.session.specs.declared.Lists.{Lists}
 use Rattle.session.specs.declared.Top.{Top}
 use Rattle.session.specs.declared.Books.{Books}
-use Rattle.session.specs.declared.Info.{Info}
 use Rattle.session.specs.declared.Area.{Area}
 use Rattle.session.specs.declared.Area.the-variants as a
 use Rattle.session.specs.declared.Stage.{Stage}
@@ -70,15 +74,15 @@ use Rattle.session.specs.declared.Fill.{Fill}
 use Rattle.session.specs.declared.Fill.the-variants as w
 use Rattle.session.specs.declared.Session.{Session}
 use Rattle.session.specs.declared.Planned.{Planned}
-use Rattle.closing_plan.specs.Closing.{isDone, isHeld, UNDOS}
-use Rattle.closing_plan.specs.Plan.{cmdIn, resetIn, onHold, givenPlan, outboxPlan, inboxPlan, faPlan, auxPlan, icmPlan, lentPlan, failedPlan, stoppedPlan, unmapFaPlan, unmapAuxPlan, unmapPlan, closeHcaPlan, undoSend, undoPlan, stopPlan, quiescePlan, closesOf, closePlanAt, closePlan}
+use Rattle.closing_plan.specs.Closing.{isDone, UNDOS}
+use Rattle.closing_plan.specs.Plan.{cmdIn, resetIn, freesPlan, failedPlan, stoppedPlan, unmapFaPlan, unmapAuxPlan, unmapPlan, closeHcaPlan, undoSend, undoPlan, stopPlan, quiescePlan, closesOf, closePlanAt, closePlan}
 use Rattle.client_plan.specs.Plan as cl
 use Rattle.client_plan.specs.Plan.{commandPlan, lendPlan, lendEnded, clientPlanAt, clientPlan}
 use Rattle.opening_plan.specs.Opening.{portsOf}
 use Rattle.opening_plan.specs.Values.{appended, enters}
 use Rattle.opening_plan.specs.Plan as n
 use Rattle.opening_plan.specs.Plan.{attrIn, claimIn, barIn, failPlan, failByPlan, funcPlan, makePlan, nextRange, mappedPlan, mapPlan, areaPlan, layoutPlan, portPlan, fwReplied, capReplied, portReplied, funcReplied, bootPlanAt, bootPlan, preparePlanAt, preparePlan, listsAt, listsBoot, lists}
-use Rattle.fw_plan.specs.Calls.{planAt, filled, withWork, stepTurn, stepOf, answerOf, answerable, isLent, refusedOf}
+use Rattle.fw_plan.specs.Calls.{asksOf, wants, bookedOf, bookedBy, answersBy, grantedBooks, mappedBooks, planAt, filled, withWork, stepTurn, stepOf, answerOf, answerable, isLent, refusedOf}
 use Rattle.fw_plan.specs.declared.Turn.{Turn}
 use Rattle.calls_plan.specs.Calls.{withoutFailure, planFor, begunTurn, readyIn, unless, barred, callable, lentFor, callOf}
 use Rattle.calls_plan.specs.Counts.{Counted}
@@ -101,72 +105,46 @@ module _ (Q : Type 0) where
   either P true y z h d = h refl
   either P false y z h d = d
 
-  more-ranges : (l : Lists) (y : Icm) → Counted l → Counted (appended l y)
-  more-ranges l y h = either Counted (ltb (l .ranges) 14) _ l (λ t. let r = ltb-true (l .ranges) 14 t in (omega arith, h .1)) h
+  more-ranges : (l : Lists) → Counted l → Counted (appended l)
+  more-ranges l h = either Counted (ltb (l .ranges) 14) _ l (λ t. let r = ltb-true (l .ranges) 14 t in (omega arith, h .1)) h
 
-  more-lends : (y : Buffer) (d : Books) → Fact d → Fact (lentTo y d)
-  more-lends y d h = either Fact (ltb (d .lists .lends) 64) _ d (λ t. let r = ltb-true (d .lists .lends) 64 t in ((h .0 .0, omega arith), h .1)) h
+  more-lends : (d : Books) → Fact d → Fact (lentTo d)
+  more-lends d h = either Fact (ltb (d .lists .lends) 64) _ d (λ t. let r = ltb-true (d .lists .lends) 64 t in ((h .0 .0, omega arith), h .1)) h
 
-  entered : (i : Info) (z : Area) (y : Buffer) (d : Books) → Fact d → Fact (enters i z y d)
-  entered i a.Fa y d h = h
-  entered i a.Aux y d h = h
-  entered i (a.Range j) y d h = (more-ranges (d .lists) _ (h .0), h .1)
+  entered : (z : Area) (d : Books) → Fact d → Fact (enters z d)
+  entered a.Fa d h = h
+  entered a.Aux d h = h
+  entered (a.Range j) d h = (more-ranges (d .lists) (h .0), h .1)
 
   by-test : (t : Bool) (y z : Planned) → After y → After z → After (pick t y z)
   by-test t y z h d = either After t y z (λ r. h) d
-
-  by-hold : (x : Hold) (y : Buffer → Planned) (z : Planned) → ((d : Buffer) → After (y d)) → After z → After (onHold x y z)
-  by-hold o.Absent y z h d = d
-  by-hold (o.Held v) y z h d = h v
 
   by-outcome : (v : Outcome ℕ) (y : ℕ → Planned) (z : Planned) → ((i : ℕ) → After (y i)) → After z → After (byOutcome v y z)
   by-outcome (value i) y z h d = h i
   by-outcome (refused i vs) y z h d = d
 
   -- CLOSING
-  none-left : (s : Session) → In s → (u : ℕ) → After (givenPlan s u)
-  none-left s h u = ((omega arith, omega arith), h .1)
+  frees-in : (m i : ℕ) (s : Session) → In s → (u : ℕ) → After (freesPlan m i s u)
+  unfolding freesPlan
+  frees-in zero i s h u = h
+  frees-in (suc m) i s h u = by-test (isHeld (slotAt (s .books .lists .slots) i)) _ _ h (frees-in m (suc i) s h u)
 
   module _ (s : Session) (h : In s) (u : ℕ) where
-    outbox-in : After (outboxPlan s u)
-    unfolding outboxPlan
-    outbox-in = by-hold (s .books .held .outbox) _ _ (λ d. h) (none-left s h u)
-
-    inbox-in : After (inboxPlan s u)
-    unfolding inboxPlan
-    inbox-in = by-hold (s .books .held .inbox) _ _ (λ d. h) outbox-in
-
-    fa-in : After (faPlan s u)
-    unfolding faPlan
-    fa-in = by-hold (s .books .held .fa) _ _ (λ d. h) inbox-in
-
-    aux-in : After (auxPlan s u)
-    unfolding auxPlan
-    aux-in = by-hold (s .books .held .aux) _ _ (λ d. h) fa-in
-
-    icm-in : (i : ℕ) → After (icmPlan s i u)
-    unfolding icmPlan
-    icm-in i = by-test (ltb i (s .books .lists .ranges)) _ _ h aux-in
-
-    lent-in : (i : ℕ) → After (lentPlan s i u)
-    unfolding lentPlan
-    lent-in i = by-test (ltb i (s .books .lists .lends)) _ _ h (icm-in 0)
-
     failed-in : After (failedPlan s u)
     unfolding failedPlan
     failed-in = by-test (s .books .wire .silent) _ _ h h
 
   stopped-in : (s : Session) → In s → (u : ℕ) → After (stoppedPlan s u)
   unfolding stoppedPlan
-  stopped-in s h u = by-test (s .books .wire .silent) _ _ h (by-test (s .books .wire .running) _ _ h (lent-in (closesOf s c.Clean (s .books)) h u 0))
+  stopped-in s h u = by-test (s .books .wire .silent) _ _ h (by-test (s .books .wire .running) _ _ h (frees-in 82 0 (closesOf s c.Clean (s .books)) h u))
 
   unmap-fa-in : (s : Session) → In s → (u : ℕ) → After (unmapFaPlan s u)
   unfolding unmapFaPlan
-  unmap-fa-in s h u = by-test (isHeld (s .books .held .fa)) _ _ h (stopped-in s h u)
+  unmap-fa-in s h u = by-test (isHeld (faOf (s .books))) _ _ h (stopped-in s h u)
 
   unmap-aux-in : (s : Session) → In s → (u : ℕ) → After (unmapAuxPlan s u)
   unfolding unmapAuxPlan
-  unmap-aux-in s h u = by-test (isHeld (s .books .held .aux)) _ _ h (unmap-fa-in s h u)
+  unmap-aux-in s h u = by-test (isHeld (auxOf (s .books))) _ _ h (unmap-fa-in s h u)
 
   unmap-in : (s : Session) → In s → (i u : ℕ) → After (unmapPlan s i u)
   unfolding unmapPlan
@@ -200,13 +178,8 @@ module _ (Q : Type 0) where
   close-in s h y top k.UnmapAux = by-test (isDone (cmdIn y .result)) _ _ (unmap-fa-in (tookOf s (cmdIn y)) h (top .count)) (failed-in (tookOf s (cmdIn y)) h (top .count))
   close-in s h y top k.UnmapFa = by-test (isDone (cmdIn y .result)) _ _ (stopped-in (tookOf s (cmdIn y)) h (top .count)) (failed-in (tookOf s (cmdIn y)) h (top .count))
   close-in s h y top k.Quiesce = h
-  close-in s h y top k.Reset = by-test (isGood (resetIn y)) _ _ (lent-in (closesOf s c.Reset (s .books)) h (top .count) 0) h
-  close-in s h y top (k.FreeLent i) = lent-in s h (top .count) i
-  close-in s h y top (k.FreeIcm i) = icm-in s h (top .count) i
-  close-in s h y top k.FreeAux = fa-in s h (top .count)
-  close-in s h y top k.FreeFa = inbox-in s h (top .count)
-  close-in s h y top k.FreeInbox = outbox-in s h (top .count)
-  close-in s h y top k.FreeOutbox = none-left s h (top .count)
+  close-in s h y top k.Reset = by-test (isGood (resetIn y)) _ _ (frees-in 82 0 (closesOf s c.Reset (s .books)) h (top .count)) h
+  close-in s h y top (k.Free i) = frees-in (81 - i) (suc i) s h (top .count)
   close-in s h y top k.Release = h
   close-in s h y top k.Restore = h
 
@@ -219,9 +192,9 @@ module _ (Q : Type 0) where
   unfolding lendPlan
   lend-in s h bytes u = by-outcome (pagesFor bytes) _ _ (λ i. h) h
 
-  ended-in : (s : Session) → In s → (y : Made) (u : ℕ) → After (lendEnded s y u)
-  ended-in s h (m.Ready y) u = more-lends y (s .books) h
-  ended-in s h (m.Refused y) u = h
+  ended-in : (s : Session) → In s → (i : ℕ) (y : Made) (u : ℕ) → After (lendEnded s i y u)
+  ended-in s h i (m.Ready y) u = more-lends (s .books) h
+  ended-in s h i (m.Refused y) u = h
 
   client-sent : (s : Session) → In s → (mark i : ℕ) (y : Top) → After (cl.undoSend s mark i y)
   client-sent s h mark zero y = h
@@ -236,7 +209,7 @@ module _ (Q : Type 0) where
 
   client-in : (s : Session) → In s → (y : End) (top : Top) (st : Client) → After (clientPlanAt s y top st)
   client-in s h y top (kc.Command z) = broken-in (cmdIn y .result) (tookOf s (cmdIn y) .books) h
-  client-in s h y top kc.Lend = ended-in s h (madeIn y) (top .count)
+  client-in s h y top (kc.Lend i) = ended-in s h i (madeIn y) (top .count)
   client-in s h y top (kc.UndoTo mark i) = by-test (isDone (cmdIn y .result)) _ _ (undo-to-in (tookOf s (cmdIn y)) h mark i top) h
 
   -- OPENING
@@ -271,7 +244,7 @@ module _ (Q : Type 0) where
   map-in s h z y top = by-test (eqb (y .left) 0) _ _ (mapped-in s h z top) h
 
   area-in : (s : Session) → In s → (z : Area) (y : Made) (top : Top) → After (areaPlan s z y top)
-  area-in s h z (m.Ready y) top = map-in _ (entered (s .info) z y (s .books) h) z _ top
+  area-in s h z (m.Ready y) top = map-in _ (entered z (s .books) h) z _ top
   area-in s h z (m.Refused y) top = fail-in s h _ top
 
   layout-in : (s : Session) → In s → (y : Outcome Layout) (top : Top) → After (layoutPlan s y top)
@@ -335,7 +308,7 @@ module _ (Q : Type 0) where
 
   out-in : (s : Session) → In s → (y : Made) (top : Top) → After (n.outboxPlan s y top)
   out-in s h (m.Ready y) top = h
-  out-in s h (m.Refused y) top = by-hold (s .books .held .inbox) _ _ (λ d. h) ((omega arith, omega arith), h .1)
+  out-in s h (m.Refused y) top = frees-in 82 0 (n.givesUp s (faultOf y) (s .books)) h (top .count)
 
   prepare-in : (s : Session) → In s → (y : End) (top : Top) (st : Prepare) → After (preparePlanAt s y top st)
   prepare-in s h y top p.Attributes = attr-in s h (attrIn y) top
@@ -344,7 +317,6 @@ module _ (Q : Type 0) where
   prepare-in s h y top p.Bar = bar-in s h (barIn y) top
   prepare-in s h y top p.Inbox = in-in s h (madeIn y) top
   prepare-in s h y top p.Outbox = out-in s h (madeIn y) top
-  prepare-in s h y top (p.GiveInbox z) = ((omega arith, omega arith), h .1)
   prepare-in s h y top p.Look = h
 
   -- WHAT IS WRITTEN before the next question leaves the lists
@@ -388,13 +360,47 @@ module _ (Q : Type 0) where
   plan-in s h y out top (g.Client v) = client-in s h y top v
   plan-in s h y out top (g.Close v) = close-in s h y top v
 
+  -- what an answer puts down or takes off leaves both
+  answers-in : (j w : ℕ) (y : Question) (v : Answer) (d : Books) → Fact d → Fact (answersBy j w y v d)
+  answers-in j w (q.ConfigRead16 o) v d h = h
+  answers-in j w (q.ConfigRead32 o) v d h = h
+  answers-in j w (q.ConfigWrite16 o y) v d h = h
+  answers-in j w (q.ConfigWrite32 o y) v d h = h
+  answers-in j w (q.RegRead k o) v d h = h
+  answers-in j w (q.RegWrite k o y) v d h = h
+  answers-in j w (q.Attributes o y) v d h = h
+  answers-in j w (q.Resource k) v d h = h
+  answers-in j w (q.Stall u) v d h = h
+  answers-in j w (q.Allocate n) v d h = granted (grantedOf v)
+    where
+      granted : (r : HandleReply) → Fact (grantedBooks j w n r d)
+      granted (hr.Got k) = h
+      granted hr.Failed = h
+      granted hr.Wrong = h
+  answers-in j w (q.Map k n) v d h = mapped (mappedOf v)
+    where
+      mapped : (r : MapReply) → Fact (mappedBooks j r d)
+      mapped (mr.Got x y) = h
+      mapped mr.Failed = h
+      mapped mr.Wrong = h
+  answers-in j w (q.Unmap k) v d h = h
+  answers-in j w (q.Free k n) v d h = h
+  answers-in j w q.Fence v d h = h
+  answers-in j w q.Finished v d h = h
+
+  booked-in : (z : Place) (y : Question) (v : Answer) (d : Books) → Fact d → Fact (bookedBy z y v d)
+  booked-in pl.neither y v d h = h
+  booked-in pl.inbox y v d h = answers-in INBOX 0 y v d h
+  booked-in pl.outbox y v d h = answers-in OUTBOX 0 y v d h
+  booked-in (pl.slot i w) y v d h = answers-in i w y v d h
+
   turn-in : (s : Session) → In s → (v : Answer) (x : Work) (i out : List ℕ) (top : Top) (n : Ending) → In (stepTurn s v x i out top n .session)
   turn-in s h v x i out top e.Going = h
   turn-in s h v x i out top (e.Ended y) = filled-in (planAt (withWork s x) y out top (s .stage) .fill) _ i (plan-in (withWork s x) h y out top (s .stage))
 
   pub step-fact : (s : Session) → Fact (s .books) → (v : Answer) (res i out : List ℕ) (top : Top) → Fact (stepOf s v res i out top .session .books)
   unfolding stepOf
-  step-fact s h v res i out top = turn-in s h v (workStepOf (s .work) v res .work) i out top (workStepOf (s .work) v res .ending)
+  step-fact s h v res i out top = turn-in (bookedOf s v) (booked-in (wants s) (asksOf s) v (s .books) h) v (workStepOf (s .work) v res .work) i out top (workStepOf (s .work) v res .ending)
 
   by-turn : (t : Bool) (y z : Turn) → In (y .session) → In (z .session) → In (pick t y z .session)
   by-turn t y z h d = either (λ (v : Turn). In (v .session)) t y z (λ r. h) d

@@ -8,26 +8,23 @@ use mathlib.Core.Logic.{_⊎_, inl, inr, ⊎-elim, _↔_}
 use mathlib.Core.Path.{_≡_, refl, sym, _∙_, ap, ap₂, subst}
 use lib.Dec.{eqb}
 use borrow.Author.Tests.{lt-ltb, eqb-true, eqb-false}
-use lib.ListN.{length, getD, set, length-set}
-use lib.Seq.{getD-set-same, getD-set-other}
+use lib.ListN.{length, set, length-set}
 use Rattle.fields.specs.Outcome.{pick}
-use Rattle.dma.specs.Pages.{table, blocksIn}
+use Rattle.dma.specs.Pages.{blocksIn}
 use Rattle.dma.specs.declared.Buffer.{Buffer}
 use Rattle.dma.specs.declared.Cutter.{Cutter}
 use Rattle.dma.specs.PageList.{mailboxOf, firstBlocks, behind}
-use Rattle.session.specs.Session.{listing, icmAt, bufferAt, bufferOf, noIcm, noBuffer, lentTo}
-use Rattle.session.specs.declared.Hold.{Hold as Slot}
-use Rattle.session.specs.declared.Hold.the-variants as o
-use Rattle.session.specs.declared.Icm.{Icm}
+use Rattle.session.specs.Session.{listing, icmAt, slotAt, noSlot, bufferOf, isHeld, named, faOf, auxOf, puts, lentTo, FA, AUX}
+use Rattle.session.specs.declared.Slot.{Slot}
 use Rattle.session.specs.declared.Books.{Books}
 use Rattle.session.specs.declared.Info.{Info}
 use Rattle.session.specs.declared.Area.{Area}
 use Rattle.session.specs.declared.Area.the-variants as a
-use Rattle.closing_plan.specs.Closing.{inHold, isHeld, boxes, areas, rangesFrom, lendsFrom}
-use Rattle.opening_plan.specs.Values.{opFor, withFa, withAux, enters, rangeAt}
+use Rattle.opening_plan.specs.Values.{opFor, enters}
 use Rattle.card.specs.Card.{Held, Command, Blocks, Named, holds, No, kind, does, effect, IsHeld, Meets}
 use Rattle.card.specs.Owns.{InBooks, spotOf}
-use Rattle.card.proofs.Owns.{Perm, stop, keep, swap, join, perm-self, In, in-left, in-right, in-books}
+use Rattle.card.proofs.Owns.{Perm, stop, keep, swap, join, in-books}
+use Rattle.card_calls.proofs.Slots.{put-here, put-there, named-put, in-named, in-more}
 use Rattle.card_calls.specs.Ranges.{OnRange, InRanges}
 use Rattle.card_calls.proofs.Blocks.{Cutting, carries, first-few, first-carried, any-split, none-left}
 use Rattle.card.specs.Known.{After}
@@ -35,36 +32,32 @@ use Rattle.card_calls.specs.Owed.{Dropped, OwedBy}
 use Rattle.card_calls.specs.Ranges.{AnyIn}
 use Rattle.card_calls.specs.Holding.{Ahead, Entries, Knows, Missing, OnSlot, Partly, Posted, Uses, lents}
 
-slot-held : (s : Slot) (d : ℕ) → OnSlot s d → isHeld s ≡ true
-slot-held o.Absent d z = absurd z
-slot-held (o.Held b) d z = refl
-
-range-dropped : (b : Books) (i : Entries b) (x d : ℕ) → InRanges b x d → (k : ℕ) × (k < b .lists .ranges) × Dropped (icmAt (b .lists .icm) k) x
+range-dropped : (b : Books) (i : Entries b) (x d : ℕ) → InRanges b x d → (k : ℕ) × (k < b .lists .ranges) × Dropped (icmAt (b .lists .slots) k) x
 range-dropped b i x d (k, l, (j, m, e, f)) =
-    let p : icmAt (b .lists .icm) k .pages % 2 ^ 32 ≡ icmAt (b .lists .icm) k .pages = mod-eq-of-lt (i .small k l) in
+    let p : icmAt (b .lists .slots) k .pages % 2 ^ 32 ≡ icmAt (b .lists .slots) k .pages = mod-eq-of-lt (i .small k l) in
     (k, l, (omega (arith, e), omega (arith, e, m, p)))
 
 pub partly-owed : (e : Area) (b : Books) (k : Cutter) (g : Held) → Entries b → Partly e b k g → OwedBy b g
 partly-owed e b k g i x = record {
   icm = λ y d z. let q = range-dropped b i y d (x .lower y d z) in (q .0, omega (arith, q .1), q .2);
-  firmware = λ d z. slot-held (b .held .fa) d (x .firmware d z);
-  auxiliary = λ d z. slot-held (b .held .aux) d (x .auxiliary d z);
+  firmware = λ d z. x .firmware d z .0;
+  auxiliary = λ d z. x .auxiliary d z .0;
   lent = λ d z. absurd (x .lent d z);
 }
 
 pub knows-owed : (b : Books) (g : Held) → Entries b → Knows b g → OwedBy b g
 knows-owed b g i x = record {
   icm = λ y d z. let q = range-dropped b i y d (x .icm y d .0 z) in (q .0, omega (arith, q .1), q .2);
-  firmware = λ d z. slot-held (b .held .fa) d (x .firmware d z);
-  auxiliary = λ d z. slot-held (b .held .aux) d (x .auxiliary d z);
+  firmware = λ d z. x .firmware d z .0;
+  auxiliary = λ d z. x .auxiliary d z .0;
   lent = λ d z. absurd (x .lent d z);
 }
 
 pub uses-owed : (b : Books) (g : Held) → Entries b → b .started ≡ true → Uses b g → OwedBy b g
 uses-owed b g i s x = record {
   icm = λ y d z. let q = range-dropped b i y d (x .icm y d .0 z) in (q .0, omega (arith, q .1), q .2);
-  firmware = λ d z. slot-held (b .held .fa) d (x .firmware d z);
-  auxiliary = λ d z. slot-held (b .held .aux) d (x .auxiliary d z);
+  firmware = λ d z. x .firmware d z .0;
+  auxiliary = λ d z. x .auxiliary d z .0;
   lent = λ d z. s;
 }
 
@@ -130,84 +123,35 @@ module _ (b : Books) (k : Cutter) (c : Cutting k) (p : Command) (count : p .inMo
   partly-step e q g (h, x, y) = subst (Partly e b (behind 63 256 k)) (sym y) (stepped e h q x)
 
 -- WHAT IS HELD LIES IN THE BUFFERS
-in-table : {A : Type 0} (f : ℕ → A) (i n k : ℕ) → k < n → In (f (i + k)) (table f i n)
-unfolding table
-in-table f i zero k h = absurd (let q : ⊥ = omega (arith, h) in q)
-in-table f i (suc n) zero h = inl (ap f (let e : i + 0 ≡ i = omega arith in e))
-in-table f i (suc n) (suc k) h = inr (subst (λ (m : ℕ). In (f m) (table f (suc i) n)) (let e : suc i + k ≡ i + suc k = omega arith in e) (in-table f (suc i) n k (omega (arith, h))))
-
-pub range-meets : (e : Icm) (x d : ℕ) → OnRange e x d → Meets (spotOf (bufferOf e)) d
+pub range-meets : (e : Slot) (x d : ℕ) → OnRange e x d → Meets (spotOf (bufferOf e)) d
 range-meets e x d (j, l, q, r) = (omega (arith, r), omega (arith, r, l))
 
-slot-in : (s : Slot) (d : ℕ) → OnSlot s d → (b : Buffer) × In b (inHold s) × Meets (spotOf b) d
-slot-in o.Absent d z = absurd z
-slot-in (o.Held b) d z = (b, inl refl, z)
+-- a page of a slot is one of the buffers'
+pub slot-bound : (b : Books) (k d : ℕ) → k < 82 → OnSlot (slotAt (b .lists .slots) k) d → InBooks (named b) d
+slot-bound b k d l z = in-books (bufferOf (slotAt (b .lists .slots) k)) (named b) d (in-named 82 0 (b .lists .slots) k (omega arith) (omega (arith, l)) (z .0)) (z .1)
 
-pub in-books-left : (xs ys : List Buffer) (d : ℕ) → InBooks xs d → InBooks (xs ++ ys) d
-in-books-left [] ys d z = absurd z
-in-books-left (x ∷ xs) ys d (inl z) = inl z
-in-books-left (x ∷ xs) ys d (inr z) = inr (in-books-left xs ys d z)
-
--- a buffer of an area or a mailbox is among the buffers
-pub in-areas : (b : Books) (c : Buffer) → In c (areas b) → In c (lendsFrom b 0)
-in-areas b c i =
-    in-right c (table (λ k. bufferAt (b .lists .lent) k) 0 (b .lists .lends - 0)) (rangesFrom b 0)
-    (in-right c (table (λ k. bufferOf (icmAt (b .lists .icm) k)) 0 (b .lists .ranges - 0)) (areas b) i)
-
-pub uses-bound : (b : Books) (g : Held) → Uses b g → (d : ℕ) → IsHeld g d → InBooks (lendsFrom b 0) d
-uses-bound b g x d z =
-    ⊎-elim (λ i. ranged (x .icm (i .0) d .0 (i .1)))
-    (λ u. ⊎-elim (λ f. held-fa (slot-in (b .held .fa) d (x .firmware d f)))
-    (λ y. ⊎-elim (λ i. held-aux (slot-in (b .held .aux) d (x .auxiliary d i))) (λ l. in-books-left (lents b) (rangesFrom b 0) d (x .lent d l)) y) u) z
+pub uses-bound : (b : Books) → Entries b → (g : Held) → Uses b g → (d : ℕ) → IsHeld g d → InBooks (named b) d
+uses-bound b i g x d z =
+    ⊎-elim (λ u. ranged (x .icm (u .0) d .0 (u .1)))
+    (λ u. ⊎-elim (λ f. slot-bound b FA d (omega arith) (x .firmware d f))
+    (λ y. ⊎-elim (λ v. slot-bound b AUX d (omega arith) (x .auxiliary d v)) (λ l. in-more 64 82 0 (b .lists .slots) d (omega arith) (x .lent d l)) y) u) z
   where
-    ranged : {y : ℕ} → InRanges b y d → InBooks (lendsFrom b 0) d
-    ranged {y = y} (k, l, r) =
-        in-books (bufferOf (icmAt (b .lists .icm) (0 + k))) (lendsFrom b 0) d
-        (in-right _ (table (λ k. bufferAt (b .lists .lent) k) 0 (b .lists .lends - 0)) (rangesFrom b 0)
-        (in-left _ (table (λ k. bufferOf (icmAt (b .lists .icm) k)) 0 (b .lists .ranges - 0)) (areas b)
-        (in-table (λ k. bufferOf (icmAt (b .lists .icm) k)) 0 (b .lists .ranges - 0) k (let q : k < b .lists .ranges - 0 = omega (arith, l) in q))))
-        (subst (λ (m : ℕ). Meets (spotOf (bufferOf (icmAt (b .lists .icm) m))) d) (let e : k ≡ 0 + k = omega arith in e) (range-meets (icmAt (b .lists .icm) k) y d r))
+    ranged : {y : ℕ} → InRanges b y d → InBooks (named b) d
+    ranged {y = y} (k, l, r) = slot-bound b (64 + k) d (let f = i .few in omega (arith, l, f)) (i .held k l, range-meets (icmAt (b .lists .slots) k) y d r)
 
-    held-aux : (c : Buffer) × In c (inHold (b .held .aux)) × Meets (spotOf c) d → InBooks (lendsFrom b 0) d
-    held-aux (c, i, m) = in-books c (lendsFrom b 0) d (in-areas b c (in-left c (inHold (b .held .aux)) (inHold (b .held .fa) ++ boxes b) i)) m
-
-    held-fa : (c : Buffer) × In c (inHold (b .held .fa)) × Meets (spotOf c) d → InBooks (lendsFrom b 0) d
-    held-fa (c, i, m) =
-        in-books c (lendsFrom b 0) d (in-areas b c (in-right c (inHold (b .held .aux)) (inHold (b .held .fa) ++ boxes b) (in-left c (inHold (b .held .fa)) (boxes b) i))) m
-
-pub knows-bound : (b : Books) (g : Held) → Knows b g → (d : ℕ) → IsHeld g d → InBooks (lendsFrom b 0) d
-knows-bound b g x d z = uses-bound b g (knows-uses b g x) d z
+pub knows-bound : (b : Books) → Entries b → (g : Held) → Knows b g → (d : ℕ) → IsHeld g d → InBooks (named b) d
+knows-bound b i g x d z = uses-bound b i g (knows-uses b g x) d z
 
 -- what is ahead lies in the buffers
-ahead-bound : (e : Area) (b : Books) (x d : ℕ) → Ahead e b x d → InBooks (lendsFrom b 0) d
-ahead-bound a.Fa b x d z = uses-bound b (holds (λ v y. InRanges b v y) (OnSlot (b .held .fa)) No No) (record { icm = λ v y. (λ i. i, λ i. i); firmware = λ y i. i; auxiliary = λ y i. absurd i; lent = λ y i. absurd i }) d (inr (inl z))
-ahead-bound a.Aux b x d z = uses-bound b (holds (λ v y. InRanges b v y) No (OnSlot (b .held .aux)) No) (record { icm = λ v y. (λ i. i, λ i. i); firmware = λ y i. absurd i; auxiliary = λ y i. i; lent = λ y i. absurd i }) d (inr (inr (inl z)))
-ahead-bound (a.Range k) b x d z = uses-bound b (holds (λ v y. InRanges b v y) No No No) (record { icm = λ v y. (λ i. i, λ i. i); firmware = λ y i. absurd i; auxiliary = λ y i. absurd i; lent = λ y i. absurd i }) d (inl (x, z))
+ahead-bound : (e : Area) (b : Books) → Entries b → (x d : ℕ) → Ahead e b x d → InBooks (named b) d
+ahead-bound a.Fa b n x d z = uses-bound b n (holds (λ v y. InRanges b v y) (OnSlot (faOf b)) No No) (record { icm = λ v y. (λ i. i, λ i. i); firmware = λ y i. i; auxiliary = λ y i. absurd i; lent = λ y i. absurd i }) d (inr (inl z))
+ahead-bound a.Aux b n x d z = uses-bound b n (holds (λ v y. InRanges b v y) No (OnSlot (auxOf b)) No) (record { icm = λ v y. (λ i. i, λ i. i); firmware = λ y i. absurd i; auxiliary = λ y i. i; lent = λ y i. absurd i }) d (inr (inr (inl z)))
+ahead-bound (a.Range k) b n x d z = uses-bound b n (holds (λ v y. InRanges b v y) No No No) (record { icm = λ v y. (λ i. i, λ i. i); firmware = λ y i. absurd i; auxiliary = λ y i. absurd i; lent = λ y i. absurd i }) d (inl (x, z))
 
 -- what a MAP names lies in the buffers
-pub named-in : (b : Books) (k : Cutter) (c : Cutting k) (p : Command) → p .inMod ≡ length (firstBlocks 63 256 k) % 2 ^ 32 → p .mail .bytes ≡ mailboxOf (firstBlocks 63 256 k)
-    → (e : Area) → ((x d : ℕ) → AnyIn (blocksIn 63 k) x d → Ahead e b x d) → (d : ℕ) → Named p d → InBooks (lendsFrom b 0) d
-named-in b k c p count bytes e f d (x, z) = ahead-bound e b x d (f x d (listed b k c p count bytes x d z))
-
--- A BUFFER ENTERS THE BOOKS: it was made last, and is freed in its place
-perm-into : {A : Type 0} (x : A) (ls ys zs : List A) → Perm (x ∷ ys) zs → Perm (x ∷ (ls ++ ys)) (ls ++ zs)
-perm-into x [] ys zs p = p
-perm-into x (l ∷ ls) ys zs p = join (x ∷ l ∷ (ls ++ ys)) (l ∷ x ∷ (ls ++ ys)) (l ∷ (ls ++ zs)) (swap x l (ls ++ ys)) (keep l (x ∷ (ls ++ ys)) (ls ++ zs) (perm-into x ls ys zs p))
-
-slot-perm : (x : Buffer) (s : Slot) (ys : List Buffer) → s ≡ o.Absent → Perm (x ∷ (inHold s ++ ys)) (x ∷ ys)
-slot-perm x s ys e = subst (λ (t : Slot). Perm (x ∷ (inHold t ++ ys)) (x ∷ ys)) (sym e) (perm-self (x ∷ ys))
-
-pub fa-perm : (b : Books) (x : Buffer) → b .held .fa ≡ o.Absent → Perm (x ∷ lendsFrom b 0) (lendsFrom (withFa b x) 0)
-fa-perm b x e =
-    perm-into x (table (λ k. bufferAt (b .lists .lent) k) 0 (b .lists .lends - 0)) _ _
-    (perm-into x (table (λ k. bufferOf (icmAt (b .lists .icm) k)) 0 (b .lists .ranges - 0)) _ _
-    (perm-into x (inHold (b .held .aux)) _ _ (slot-perm x (b .held .fa) (boxes b) e)))
-
-pub aux-perm : (b : Books) (x : Buffer) → b .held .aux ≡ o.Absent → Perm (x ∷ lendsFrom b 0) (lendsFrom (withAux b x) 0)
-aux-perm b x e =
-    perm-into x (table (λ k. bufferAt (b .lists .lent) k) 0 (b .lists .lends - 0)) _ _
-    (perm-into x (table (λ k. bufferOf (icmAt (b .lists .icm) k)) 0 (b .lists .ranges - 0)) _ _
-    (slot-perm x (b .held .aux) (inHold (b .held .fa) ++ boxes b) e))
+pub named-in : (b : Books) → Entries b → (k : Cutter) (c : Cutting k) (p : Command) → p .inMod ≡ length (firstBlocks 63 256 k) % 2 ^ 32 → p .mail .bytes ≡ mailboxOf (firstBlocks 63 256 k)
+    → (e : Area) → ((x d : ℕ) → AnyIn (blocksIn 63 k) x d → Ahead e b x d) → (d : ℕ) → Named p d → InBooks (named b) d
+named-in b n k c p count bytes e f d (x, z) = ahead-bound e b n x d (f x d (listed b k c p count bytes x d z))
 
 -- the same pages, in whatever order
 pub books-perm : (xs ys : List Buffer) → Perm xs ys → (d : ℕ) → InBooks xs d → InBooks ys d
@@ -219,123 +163,153 @@ books-perm _ _ (swap x y xs) d (inr (inl z)) = inl z
 books-perm _ _ (swap x y xs) d (inr (inr z)) = inr (inr z)
 books-perm _ _ (join xs ys zs p q) d z = books-perm ys zs q d (books-perm xs ys p d z)
 
+-- A BUFFER IS PUT DOWN in an empty slot: it is named, and freed in its place
+pub put-perm : (b : Books) (j : ℕ) (x : Slot) → length (b .lists .slots) ≡ 82 → j < 82 → isHeld x ≡ true → slotAt (b .lists .slots) j ≡ noSlot → Perm (bufferOf x ∷ named b) (named (puts j x b))
+put-perm b j x room l h e = named-put 82 0 (b .lists .slots) j x h e (let g : j < length (b .lists .slots) = omega (arith, l, room) in g) (omega arith) (omega (arith, l))
+
+-- of an area or a mailbox: all else is as it was
+module _ (b : Books) (i : Entries b) (j : ℕ) (above : 78 ≤ j) (x : Slot) where
+  abbrev l : List Slot
+  l = b .lists .slots
+
+  range-kept : (k : ℕ) → k < 14 → icmAt (set l j x) k ≡ icmAt l k
+  range-kept k h = put-there l j (64 + k) x (λ q. let z : ⊥ = omega (arith, h, q, above) in z)
+
+  pub area-entries : Entries (puts j x b)
+  area-entries = record {
+    room = length-set l j x ∙ i .room;
+    few = i .few;
+    small = λ k h. subst (λ (y : Slot). y .pages < 2 ^ 32) (sym (range-kept k (within k h))) (i .small k h);
+    addressed = λ k h. subst (λ (y : Slot). y .virt < 2 ^ 64) (sym (range-kept k (within k h))) (i .addressed k h);
+    held = λ k h. ap isHeld (range-kept k (within k h)) ∙ i .held k h;
+    free = λ k h m. range-kept k m ∙ i .free k h m;
+    unlent = λ k h m. put-there l j k x (λ q. let z : ⊥ = omega (arith, m, q, above) in z) ∙ i .unlent k h m;
+  }
+    where
+      within : (k : ℕ) → k < b .lists .ranges → k < 14
+      within k h = let f = i .few in omega (arith, h, f)
+
+  pub in-kept : (y d : ℕ) → InRanges (puts j x b) y d ↔ InRanges b y d
+  in-kept y d = (
+    λ z. (z .0, z .1, subst (λ (s : Slot). OnRange s y d) (range-kept (z .0) (within (z .0) (z .1))) (z .2)),
+    λ z. (z .0, z .1, subst (λ (s : Slot). OnRange s y d) (sym (range-kept (z .0) (within (z .0) (z .1)))) (z .2)),
+  )
+    where
+      within : (k : ℕ) → k < b .lists .ranges → k < 14
+      within k h = let f = i .few in omega (arith, h, f)
+
 -- the books with one range more
-abbrev pub entryOf : (virt : ℕ) → Buffer → Icm
-entryOf virt x = record { virt = virt; handle = x .handle; dev = x .dev; pages = x .pages }
+abbrev pub ranged : Books → Slot → Books
+ranged b e = listing b (record { slots = set (b .lists .slots) (64 + b .lists .ranges) e; ranges = b .lists .ranges + 1; lends = b .lists .lends })
 
-abbrev pub ranged : Books → Icm → Books
-ranged b e = listing b (record { icm = set (b .lists .icm) (b .lists .ranges) e; ranges = b .lists .ranges + 1; lent = b .lists .lent; lends = b .lists .lends })
+pub range-enters : (i : ℕ) (e : Slot) (b : Books) → b .lists .ranges ≡ i → i < 14 → enters (a.Range i) (puts (64 + i) e b) ≡ ranged b e
+range-enters i e b q l =
+    ap (λ (t : Bool). listing b (pick t (record { slots = set (b .lists .slots) (64 + i) e; ranges = b .lists .ranges + 1; lends = b .lists .lends }) (record { slots = set (b .lists .slots) (64 + i) e; ranges = b .lists .ranges; lends = b .lists .lends })))
+    (lt-ltb (b .lists .ranges) 14 (subst (λ (m : ℕ). m < 14) (sym q) l))
+    ∙ ap (λ (m : ℕ). listing b (record { slots = set (b .lists .slots) (64 + m) e; ranges = b .lists .ranges + 1; lends = b .lists .lends })) (sym q)
 
-pub range-enters : (n : Info) (i : ℕ) (x : Buffer) (b : Books) → b .lists .ranges < 14 → enters n (a.Range i) x b ≡ ranged b (entryOf (rangeAt n i .virt) x)
-range-enters n i x b l =
-    ap (λ (t : Bool). listing b (pick t (record { icm = set (b .lists .icm) (b .lists .ranges) (entryOf (rangeAt n i .virt) x); ranges = b .lists .ranges + 1; lent = b .lists .lent; lends = b .lists .lends }) (b .lists)))
-    (lt-ltb (b .lists .ranges) 14 l)
-
--- a list with one place more in use, as a table
-table-snoc : {A : Type 0} (f : ℕ → A) (j m : ℕ) → table f j (m + 1) ≡ table f j m ++ (f (j + m) ∷ [])
-unfolding table
-table-snoc f j zero = ap (λ (k : ℕ). f k ∷ []) (let q : j ≡ j + 0 = omega arith in q)
-table-snoc f j (suc m) =
-    ap (table f j) (let q : suc m + 1 ≡ suc (m + 1) = omega arith in q)
-    ∙ ap (λ (xs : List _). f j ∷ xs) (table-snoc f (suc j) m ∙ ap (λ (k : ℕ). table f (suc j) m ++ (f k ∷ [])) (let q : suc j + m ≡ j + suc m = omega arith in q))
-
-module _ {A : Type 0} (f : A → Buffer) (z : A) (xs : List A) (r : ℕ) (e : A) (room : r < length xs) where
-  kept-place : (k : ℕ) → k < r → getD (set xs r e) k z ≡ getD xs k z
-  kept-place k h = getD-set-other xs r k e z (λ q. let y : ⊥ = omega (arith, h, q) in y)
-
-  table-same : (j m : ℕ) → j + m ≤ r → table (λ k. f (getD (set xs r e) k z)) j m ≡ table (λ k. f (getD xs k z)) j m
-  unfolding table
-  table-same j zero h = refl
-  table-same j (suc m) h =
-      ap₂ (λ (x : Buffer) (ys : List Buffer). x ∷ ys) (ap f (kept-place j (let q : j < r = omega (arith, h) in q))) (table-same (suc j) m (let q : suc j + m ≤ r = omega (arith, h) in q))
-
-  table-grown : table (λ k. f (getD (set xs r e) k z)) 0 (r + 1 - 0) ≡ table (λ k. f (getD xs k z)) 0 (r - 0) ++ (f e ∷ [])
-  table-grown =
-      ap (table (λ k. f (getD (set xs r e) k z)) 0) (let q : r + 1 - 0 ≡ (r - 0) + 1 = omega arith in q)
-      ∙ table-snoc (λ k. f (getD (set xs r e) k z)) 0 (r - 0)
-      ∙ ap₂ (λ (ys zs : List Buffer). ys ++ zs) (table-same 0 (r - 0) (let q : 0 + (r - 0) ≤ r = omega arith in q))
-      (ap (λ (y : A). f y ∷ []) (ap (λ (k : ℕ). getD (set xs r e) k z) (let q : 0 + (r - 0) ≡ r = omega arith in q) ∙ getD-set-same xs r e z room))
-
-module _ (b : Books) (i : Entries b) (l : b .lists .ranges < 14) (e : Icm) where
+module _ (b : Books) (i : Entries b) (l : b .lists .ranges < 14) (e : Slot) where
   abbrev r : ℕ
   r = b .lists .ranges
 
-  abbrev icms : List Icm
-  icms = b .lists .icm
+  abbrev icms : List Slot
+  icms = b .lists .slots
 
-  pub new-entry : icmAt (set (b .lists .icm) (b .lists .ranges) e) (b .lists .ranges) ≡ e
-  new-entry = getD-set-same icms r e noIcm (let h : r < length icms = omega (arith, l, i .room) in h)
+  pub new-entry : icmAt (set (b .lists .slots) (64 + b .lists .ranges) e) (b .lists .ranges) ≡ e
+  new-entry = put-here icms (64 + r) e (let h : 64 + r < length icms = omega (arith, l, i .room) in h)
 
-  pub old-entry : (k : ℕ) → k < b .lists .ranges → icmAt (set (b .lists .icm) (b .lists .ranges) e) k ≡ icmAt (b .lists .icm) k
-  old-entry k h = getD-set-other icms r k e noIcm (λ q. let z : ⊥ = omega (arith, h, q) in z)
+  pub old-entry : (k : ℕ) → (k ≡ b .lists .ranges → ⊥) → icmAt (set (b .lists .slots) (64 + b .lists .ranges) e) k ≡ icmAt (b .lists .slots) k
+  old-entry k h = put-there icms (64 + r) (64 + k) e (λ q. h (let z : k ≡ r = omega (arith, q) in z))
+
+  older : (k : ℕ) → k < b .lists .ranges → k ≡ b .lists .ranges → ⊥
+  older k h q = let z : ⊥ = omega (arith, h, q) in z
 
   -- each range of the longer list is one of the shorter, or the new one
-  pub each-range : (Q : ℕ → Icm → Type 0) → ((k : ℕ) → k < b .lists .ranges → Q k (icmAt (b .lists .icm) k)) → Q (b .lists .ranges) e
-      → (k : ℕ) → k < b .lists .ranges + 1 → Q k (icmAt (set (b .lists .icm) (b .lists .ranges) e) k)
+  pub each-range : (Q : ℕ → Slot → Type 0) → ((k : ℕ) → k < b .lists .ranges → Q k (icmAt (b .lists .slots) k)) → Q (b .lists .ranges) e
+      → (k : ℕ) → k < b .lists .ranges + 1 → Q k (icmAt (set (b .lists .slots) (64 + b .lists .ranges) e) k)
   each-range Q f z k h = by-new (eqb k r) refl
     where
-      by-new : (t : Bool) → eqb k r ≡ t → Q k (icmAt (set icms r e) k)
+      by-new : (t : Bool) → eqb k r ≡ t → Q k (icmAt (set icms (64 + r) e) k)
       by-new true q =
           let s = eqb-true k r q in
-          subst (λ (m : ℕ). Q m (icmAt (set icms r e) m)) (sym s) (subst (Q r) (sym new-entry) z)
+          subst (λ (m : ℕ). Q m (icmAt (set icms (64 + r) e) m)) (sym s) (subst (Q r) (sym new-entry) z)
       by-new false q =
           let s = eqb-false k r q in
           let g : k < r = omega (arith, h, s) in
-          subst (Q k) (sym (old-entry k g)) (f k g)
+          subst (Q k) (sym (old-entry k s)) (f k g)
 
-  pub ranged-entries : e .pages < 2 ^ 32 → e .virt < 2 ^ 64 → Entries (ranged b e)
-  ranged-entries s v = record {
-    room = length-set icms r e ∙ i .room;
-    lentRoom = i .lentRoom;
+  pub ranged-entries : isHeld e ≡ true → e .pages < 2 ^ 32 → e .virt < 2 ^ 64 → Entries (ranged b e)
+  ranged-entries h s v = record {
+    room = length-set icms (64 + r) e ∙ i .room;
+    few = let z : r + 1 ≤ 14 = omega (arith, l) in z;
     small = each-range (λ k y. y .pages < 2 ^ 32) (i .small) s;
     addressed = each-range (λ k y. y .virt < 2 ^ 64) (i .addressed) v;
+    held = each-range (λ k y. isHeld y ≡ true) (i .held) h;
+    free = λ k g m. old-entry k (λ q. let z : ⊥ = omega (arith, g, q) in z) ∙ i .free k (omega (arith, g)) m;
+    unlent = λ k g m. put-there icms (64 + r) k e (λ q. let z : ⊥ = omega (arith, m, q) in z) ∙ i .unlent k g m;
   }
 
   -- a page of the longer list's ranges
   pub in-old : (x d : ℕ) → InRanges b x d → InRanges (ranged b e) x d
-  in-old x d (k, h, z) = (k, omega (arith, h), subst (λ (y : Icm). OnRange y x d) (sym (old-entry k h)) z)
+  in-old x d (k, h, z) = (k, omega (arith, h), subst (λ (y : Slot). OnRange y x d) (sym (old-entry k (older k h))) z)
 
   pub in-new : (x d : ℕ) → OnRange e x d → InRanges (ranged b e) x d
-  in-new x d z = (r, omega arith, subst (λ (y : Icm). OnRange y x d) (sym new-entry) z)
+  in-new x d z = (r, omega arith, subst (λ (y : Slot). OnRange y x d) (sym new-entry) z)
 
   pub in-either : (x d : ℕ) → InRanges (ranged b e) x d → InRanges b x d ⊎ OnRange e x d
   in-either x d (k, h, z) = each-range (λ k y. OnRange y x d → InRanges b x d ⊎ OnRange e x d) (λ k g y. inl (k, g, y)) (λ y. inr y) k h z
 
-  longer : table (λ k. bufferOf (icmAt (set icms r e) k)) 0 (r + 1 - 0) ≡ table (λ k. bufferOf (icmAt icms k)) 0 (r - 0) ++ (bufferOf e ∷ [])
-  longer = table-grown bufferOf noIcm icms r e (let h : r < length icms = omega (arith, l, i .room) in h)
-
-  pub range-perm : Perm (bufferOf e ∷ lendsFrom b 0) (lendsFrom (ranged b e) 0)
-  range-perm =
-      perm-into (bufferOf e) (table (λ k. bufferAt (b .lists .lent) k) 0 (b .lists .lends - 0)) _ _
-      (subst (λ (xs : List Buffer). Perm (bufferOf e ∷ rangesFrom b 0) xs)
-      (sym (ap (λ (xs : List Buffer). xs ++ areas b) longer ∙ append-assoc (table (λ k. bufferOf (icmAt icms k)) 0 (r - 0)) (bufferOf e ∷ []) (areas b)))
-      (perm-into (bufferOf e) (table (λ k. bufferOf (icmAt icms k)) 0 (r - 0)) (areas b) (bufferOf e ∷ areas b) (perm-self (bufferOf e ∷ areas b))))
+  pub range-perm : isHeld e ≡ true → Perm (bufferOf e ∷ named b) (named (ranged b e))
+  range-perm h = put-perm b (64 + r) e (i .room) (omega (arith, l)) h (i .free r (let z : r ≤ r = omega arith in z) l)
 
 -- the books with one lent buffer more
-abbrev pub lentIn : Books → Buffer → Books
-lentIn b x = listing b (record { icm = b .lists .icm; ranges = b .lists .ranges; lent = set (b .lists .lent) (b .lists .lends) x; lends = b .lists .lends + 1 })
+abbrev pub lentIn : Books → Slot → Books
+lentIn b x = listing b (record { slots = set (b .lists .slots) (b .lists .lends) x; ranges = b .lists .ranges; lends = b .lists .lends + 1 })
 
-pub lends-enters : (b : Books) (x : Buffer) → b .lists .lends < 64 → lentTo x b ≡ lentIn b x
-lends-enters b x l = ap (λ (t : Bool). pick t (lentIn b x) b) (lt-ltb (b .lists .lends) 64 l)
+pub lends-enters : (b : Books) (x : Slot) → b .lists .lends < 64 → lentTo (puts (b .lists .lends) x b) ≡ lentIn b x
+lends-enters b x l = ap (λ (t : Bool). pick t (lentIn b x) (puts (b .lists .lends) x b)) (lt-ltb (b .lists .lends) 64 l)
 
-module _ (b : Books) (i : Entries b) (l : b .lists .lends < 64) (x : Buffer) where
-  lents-grown : lents (lentIn b x) ≡ lents b ++ (x ∷ [])
-  lents-grown = table-grown (λ (y : Buffer). y) noBuffer (b .lists .lent) (b .lists .lends) x (let h : b .lists .lends < length (b .lists .lent) = omega (arith, l, i .lentRoom) in h)
+module _ (b : Books) (i : Entries b) (l : b .lists .lends < 64) (x : Slot) where
+  abbrev slots : List Slot
+  slots = b .lists .slots
 
-  pub lent-perm : Perm (x ∷ lendsFrom b 0) (lendsFrom (lentIn b x) 0)
-  lent-perm =
-      subst (λ (xs : List Buffer). Perm (x ∷ lendsFrom b 0) xs)
-      (sym (ap (λ (xs : List Buffer). xs ++ rangesFrom b 0) lents-grown ∙ append-assoc (lents b) (x ∷ []) (rangesFrom b 0)))
-      (perm-into x (lents b) (rangesFrom b 0) (x ∷ rangesFrom b 0) (perm-self (x ∷ rangesFrom b 0)))
+  abbrev n : ℕ
+  n = b .lists .lends
+
+  range-stays : (k : ℕ) → icmAt (set slots n x) k ≡ icmAt slots k
+  range-stays k = put-there slots n (64 + k) x (λ q. let z : ⊥ = omega (arith, l, q) in z)
+
+  pub lent-perm : isHeld x ≡ true → Perm (bufferOf x ∷ named b) (named (lentIn b x))
+  lent-perm h = put-perm b n x (i .room) (omega (arith, l)) h (i .unlent n (let z : n ≤ n = omega arith in z) l)
 
   pub lent-entries : Entries (lentIn b x)
-  lent-entries = record { room = i .room; lentRoom = length-set (b .lists .lent) (b .lists .lends) x ∙ i .lentRoom; small = i .small; addressed = i .addressed }
+  lent-entries = record {
+    room = length-set slots n x ∙ i .room;
+    few = i .few;
+    small = λ k h. subst (λ (y : Slot). y .pages < 2 ^ 32) (sym (range-stays k)) (i .small k h);
+    addressed = λ k h. subst (λ (y : Slot). y .virt < 2 ^ 64) (sym (range-stays k)) (i .addressed k h);
+    held = λ k h. ap isHeld (range-stays k) ∙ i .held k h;
+    free = λ k h m. range-stays k ∙ i .free k h m;
+    unlent = λ k h m. put-there slots n k x (λ q. let z : ⊥ = omega (arith, h, q) in z) ∙ i .unlent k (omega (arith, h)) m;
+  }
 
-  pub lent-old : (d : ℕ) → InBooks (lents b) d → InBooks (lents (lentIn b x)) d
-  lent-old d z = subst (λ (xs : List Buffer). InBooks xs d) (sym lents-grown) (in-books-left (lents b) (x ∷ []) d z)
+  pub lent-same : (k : ℕ) → 64 ≤ k → slotAt (lentIn b x .lists .slots) k ≡ slotAt (b .lists .slots) k
+  lent-same k h = put-there slots n k x (λ q. let z : ⊥ = omega (arith, h, l, q) in z)
 
-  pub lent-new : (d : ℕ) → Meets (spotOf x) d → InBooks (lents (lentIn b x)) d
-  lent-new d z = subst (λ (xs : List Buffer). InBooks xs d) (sym lents-grown) (in-books x (lents b ++ (x ∷ [])) d (in-right x (lents b) (x ∷ []) (inl refl)) z)
+  pub lent-ranges : (y d : ℕ) → InRanges (lentIn b x) y d ↔ InRanges b y d
+  lent-ranges y d = (
+    λ z. (z .0, z .1, subst (λ (s : Slot). OnRange s y d) (range-stays (z .0)) (z .2)),
+    λ z. (z .0, z .1, subst (λ (s : Slot). OnRange s y d) (sym (range-stays (z .0))) (z .2)),
+  )
 
-  pub all-old : (d : ℕ) → InBooks (lendsFrom b 0) d → InBooks (lendsFrom (lentIn b x) 0) d
-  all-old d z = books-perm (x ∷ lendsFrom b 0) (lendsFrom (lentIn b x) 0) lent-perm d (inr z)
+  lents-perm : isHeld x ≡ true → Perm (bufferOf x ∷ lents b) (lents (lentIn b x))
+  lents-perm h = named-put 64 0 slots n x h (i .unlent n (let z : n ≤ n = omega arith in z) l) (let z : n < length slots = omega (arith, l, i .room) in z) (omega arith) (omega (arith, l))
+
+  pub lent-old : isHeld x ≡ true → (d : ℕ) → InBooks (lents b) d → InBooks (lents (lentIn b x)) d
+  lent-old h d z = books-perm (bufferOf x ∷ lents b) (lents (lentIn b x)) (lents-perm h) d (inr z)
+
+  pub lent-new : isHeld x ≡ true → (d : ℕ) → Meets (spotOf (bufferOf x)) d → InBooks (lents (lentIn b x)) d
+  lent-new h d z = books-perm (bufferOf x ∷ lents b) (lents (lentIn b x)) (lents-perm h) d (inl z)
+
+  pub all-old : isHeld x ≡ true → (d : ℕ) → InBooks (named b) d → InBooks (named (lentIn b x)) d
+  all-old h d z = books-perm (bufferOf x ∷ named b) (named (lentIn b x)) (lent-perm h) d (inr z)

@@ -27,14 +27,14 @@ use Rattle.buffer.specs.declared.Made.the-variants as m
 use Rattle.session.specs.Session.{wired, after, broken, catasFor}
 use Rattle.session.specs.Failures.{brokenBy}
 use Rattle.session.specs.Course as cs
-use Rattle.session.specs.Course.{Course, Here, here, Lent, Box, neither, run, touched, lent, sends}
+use Rattle.session.specs.Course.{Course, Here, here, Lent, Place, neither, slot, run, booked, touched, lent, sends}
 use Rattle.session.specs.declared.Books.{Books}
 use Rattle.session.specs.declared.Info.{Info}
 use Rattle.session.specs.declared.Gave.the-variants as v
 use Rattle.session.specs.declared.Failure.{Failure}
 use Rattle.session.specs.declared.Closing.{Closing}
 use Rattle.closing_plan.specs.Closing.{isDone, undoPost, popped, UNDOS}
-use Rattle.client_plan.specs.Client.{postOf, readied, gaveBy, gives, commanding, lentBy, lending, undoing, undoingTo}
+use Rattle.client_plan.specs.Client.{lendAt, postOf, readied, gaveBy, gives, commanding, lentBy, lending, undoing, undoingTo}
 use Rattle.client_plan.specs.declared.Request.{Request}
 use Rattle.card.specs.Card.{Held, Command, Card, Other, kind, effect, Settles, goOf, written, begin, store, take, afterReset, Takes, World, WorldStep}
 use Rattle.card.specs.Known.{Within}
@@ -136,9 +136,9 @@ course-calm : {R : Type 0} (b : Bool) (x y : Course R) → (b ≡ true → CalmC
 course-calm true x y h k = h refl
 course-calm false x y h k = k refl
 
-calm-run : {A R : Type 0} (b : Box) (t : Script A) (K : A → Here → Course R) (h : Here) → Calms t → ((a : A) (j : Here) → CalmCourse (K a j)) → CalmCourse (run b t K h)
-calm-run b (ret a) K h x k = k a h
-calm-run b (ask q f) K h x k = (x .0, λ r m. calm-run b (f r) K (touched b q r (lent h m)) (x .1 r) k)
+calm-run : {A R : Type 0} (p : Place) (t : Script A) (K : A → Books → Here → Course R) (b : Books) (h : Here) → Calms t → ((a : A) (d : Books) (j : Here) → CalmCourse (K a d j)) → CalmCourse (run p t K b h)
+calm-run p (ret a) K b h x k = k a b h
+calm-run p (ask q f) K b h x k = (x .0, λ r m. calm-run p (f r) K (booked p q r b) (touched p q r (lent h m)) (x .1 r) k)
 
 -- A COMMAND of no effect
 module _ (catas : Catas) (inbox : List ℕ) where
@@ -200,8 +200,8 @@ module _ (catas : Catas) (inbox : List ℕ) where
 sends-calm : {R : Type 0} (b : Books) (p : Post) (K : CmdResult → Books → Here → Course R) (h : Here) → p .op < 0x1000 → kind (p .op) ≡ Other
     → ((a : CmdResult) (d : Books) (j : Here) → CalmCourse (K a d j)) → CalmCourse (sends b p K h)
 sends-calm b p K h small e k =
-    calm-run neither (command (catasFor (b .wire)) (h .inbox) (b .wire .toggle) p) (λ e j. K (e .result) (wired b (after (b .wire) e)) j) h
-    (command-calm (catasFor (b .wire)) (h .inbox) (b .wire .toggle) p small e) (λ a j. k (a .result) (wired b (after (b .wire) a)) j)
+    calm-run neither (command (catasFor (b .wire)) (h .inbox) (b .wire .toggle) p) (λ e d j. K (e .result) (wired d (after (d .wire) e)) j) b h
+    (command-calm (catasFor (b .wire)) (h .inbox) (b .wire .toggle) p small e) (λ a d j. k (a .result) (wired d (after (d .wire) a)) j)
 
 -- A BUFFER is made
 making-calm : (bytes : ℕ) → Calms (making bytes)
@@ -232,15 +232,15 @@ module _ (n : Info) (f : Failure) (z : Closing) where
   pub commanding-calm : (y : Request) (input : List ℕ) (b : Books) (h : Here) → isReserved (y .op) ≡ false → CalmCourse (commanding n f z y input b h)
   unfolding commanding
   commanding-calm y input b h u =
-      sends-calm b (postOf (b .held) y) (λ a d j. gives n f z (gaveBy (y .form) a) (brokenBy a d) j) (readied (y .form) input h) (unreserved-small (y .op) u) (unreserved-other (y .op) u) (λ a d j. tt)
+      sends-calm b (postOf b y) (λ a d j. gives n f z (gaveBy (y .form) a) (brokenBy a d) j) (readied (y .form) input h) (unreserved-small (y .op) u) (unreserved-other (y .op) u) (λ a d j. tt)
 
-  lent-calm : (y : Made) (b : Books) (h : Here) → CalmCourse (lentBy n f z y b h)
-  lent-calm (m.Ready y) b h = tt
-  lent-calm (m.Refused e) b h = tt
+  lent-calm : (i : ℕ) (y : Made) (b : Books) (h : Here) → CalmCourse (lentBy n f z i y b h)
+  lent-calm i (m.Ready y) b h = tt
+  lent-calm i (m.Refused e) b h = tt
 
   pub lending-calm : (bytes : ℕ) (b : Books) (h : Here) → CalmCourse (lending n f z bytes b h)
   unfolding lending
-  lending-calm bytes b h = calm-run neither (making bytes) (λ y j. lentBy n f z y b j) h (making-calm bytes) (λ y j. lent-calm y b j)
+  lending-calm bytes b h = calm-run (lendAt (b .lists .lends)) (making bytes) (λ y d j. lentBy n f z (b .lists .lends) y d j) b h (making-calm bytes) (λ y d j. lent-calm (b .lists .lends) y d j)
 
   undoing-calm : (mark k : ℕ) (b : Books) (h : Here) → CalmCourse (undoing n f z mark k b h)
   unfolding undoing

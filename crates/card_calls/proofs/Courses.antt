@@ -13,11 +13,12 @@ use Rattle.command.specs.Script.{command}
 use Rattle.command.specs.declared.CmdResult.{CmdResult}
 use Rattle.command.specs.declared.CmdEnd.{CmdEnd}
 use Rattle.session.specs.Session.{wired, after, catasFor}
-use Rattle.session.specs.Course.{Course, ret, ask, Here, Lent, lent, Box, neither, inbox, outbox, zeroed, touched, run, task, sends}
+use Rattle.session.specs.Course.{Course, ret, ask, Here, Lent, lent, Place, slot, booked, neither, inbox, outbox, zeroed, touched, run, task, sends}
 use Rattle.session.specs.declared.Books.{Books}
 use Rattle.card.specs.Card.{Held, Command, World, mailAt}
 use Rattle.card.specs.Safe.{Safe}
 use Rattle.card.proofs.Command.{CmdPost, safe-command}
+use Rattle.card_calls.proofs.Slots.{Ends}
 use Rattle.card_calls.specs.SafeCourse.{Typed, Lendable, SafeCourse}
 use Rattle.card.specs.Known.{Carried, Fits, Out, Within, postedAs}
 
@@ -35,12 +36,13 @@ zeros zero k = let g : 0 < 256 = omega arith in g
 zeros (suc n) zero = let g : 0 < 256 = omega arith in g
 zeros (suc n) (suc k) = zeros n k
 
-pub fair-zeroed : (b : Box) (h : Here) → Fair h → Fair (zeroed b h)
+pub fair-zeroed : (b : Place) (h : Here) → Fair h → Fair (zeroed b h)
 fair-zeroed neither h f = f
 fair-zeroed inbox h f = record { inbox = length-replicate (length (h .inbox)) 0 ∙ f .inbox; outbox = f .outbox; undo = f .undo }
 fair-zeroed outbox h f = record { inbox = f .inbox; outbox = zeros (length (h .outbox)); undo = f .undo }
+fair-zeroed (slot i v) h f = f
 
-fair-touched : (b : Box) (q : Ask) (r : Reply q) (h : Here) → Fair h → Fair (touched b q r h)
+fair-touched : (b : Place) (q : Ask) (r : Reply q) (h : Here) → Fair h → Fair (touched b q r h)
 fair-touched b (configRead16 o) r h f = f
 fair-touched b (configRead32 o) r h f = f
 fair-touched b (configWrite16 o v) r h f = f
@@ -74,25 +76,25 @@ untouched (unmap b) r h = refl
 untouched (free b n) r h = refl
 untouched (fence i) r h = refl
 
-module _ {A R : Type 0} (K : A → Here → Course R) (M : World → A → Type 1) (P : World → R → Type 1) where
-  -- a task that copies no mailbox, whichever mailbox its buffer is for
-  pub safe-run : (b : Box) (t : Script A) (h : Here) (w : World) → Fair h → ((i : List ℕ) → Safe i w t M) → ((v : World) (a : A) (j : Here) → Fair j → M v a → SafeCourse v (K a j) P)
-      → SafeCourse w (run b t K h) P
-  safe-run b (s.ret a) h w f x k = k w a h f (x (h .inbox))
-  safe-run b (s.ask q g) h w f x k = (
+module _ {A R : Type 0} (K : A → Books → Here → Course R) (M : World → A → Type 1) (P : World → R → Type 1) where
+  -- a task that copies no mailbox, whatever its buffer is for; E is what it leaves of the books
+  pub safe-run : (p : Place) (t : Script A) (b : Books) (E : A → Books → Type 0) (h : Here) (w : World) → Fair h → ((i : List ℕ) → Safe i w t M) → Ends p t b E
+      → ((v : World) (a : A) (d : Books) (j : Here) → Fair j → M v a → E a d → SafeCourse v (K a d j) P) → SafeCourse w (run p t K b h) P
+  safe-run p (s.ret a) b E h w f x e k = k w a b h f (x (h .inbox)) e
+  safe-run p (s.ask q g) b E h w f x e k = (
     x (h .inbox) .0,
-    λ r m v ok st. safe-run b (g r) (touched b q r (lent h m)) v (fair-touched b q r (lent h m) (fair-lent h m f ok)) (λ i. x i .1 r v st) k,
+    λ r m v ok st. safe-run p (g r) (booked p q r b) E (touched p q r (lent h m)) v (fair-touched p q r (lent h m) (fair-lent h m f ok)) (λ i. x i .1 r v st) (e r) k,
   )
 
-  -- a task of no mailbox, the inbox staying as it is
-  pub safe-task : (t : Script A) (h : Here) (w : World) → Fair h → Safe (h .inbox) w t M → ((v : World) (a : A) (j : Here) → Fair j → j .inbox ≡ h .inbox → M v a → SafeCourse v (K a j) P)
-      → SafeCourse w (task t K h) P
-  safe-task (s.ret a) h w f x k = k w a h f refl x
-  safe-task (s.ask q g) h w f x k = (
+  -- a task of no buffer: inbox and books stay as they are
+  pub safe-task : (t : Script A) (b : Books) (h : Here) (w : World) → Fair h → Safe (h .inbox) w t M → ((v : World) (a : A) (j : Here) → Fair j → j .inbox ≡ h .inbox → M v a → SafeCourse v (K a b j) P)
+      → SafeCourse w (task t K b h) P
+  safe-task (s.ret a) b h w f x k = k w a h f refl x
+  safe-task (s.ask q g) b h w f x k = (
     x .0,
     λ r m v ok st.
-        subst (λ (j : Here). SafeCourse v (run neither (g r) K j) P) (sym (untouched q r (lent h m)))
-        (safe-task (g r) (lent h m) v (fair-lent h m f ok) (x .1 r v st) k),
+        subst (λ (j : Here). SafeCourse v (run neither (g r) K b j) P) (sym (untouched q r (lent h m)))
+        (safe-task (g r) b (lent h m) v (fair-lent h m f ok) (x .1 r v st) k),
   )
 
 -- A COMMAND in a course
@@ -102,8 +104,8 @@ pub safe-sends : {R : Type 0} (b : Books) (p : Post) (K : CmdResult → Books �
     → SafeCourse v (K (x .result) (wired b (after (b .wire) x)) j) P)
     → SafeCourse w (sends b p K h) P
 safe-sends b p K H Q P h w f fits car x k =
-    safe-task (λ e j. K (e .result) (wired b (after (b .wire) e)) j) (CmdPost (catasFor (b .wire)) (h .inbox) (b .wire .toggle) p H Q (w .host)) P
-    (command (catasFor (b .wire)) (h .inbox) (b .wire .toggle) p) h w f
+    safe-task (λ e d j. K (e .result) (wired d (after (d .wire) e)) j) (CmdPost (catasFor (b .wire)) (h .inbox) (b .wire .toggle) p H Q (w .host)) P
+    (command (catasFor (b .wire)) (h .inbox) (b .wire .toggle) p) b h w f
     (safe-command (catasFor (b .wire)) (h .inbox) (b .wire .toggle) p H Q (w .host) fits car w refl x)
     (λ v a j g e m. k v a j g (m .0) (m .1))
 

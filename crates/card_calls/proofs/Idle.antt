@@ -28,7 +28,7 @@ moved-boxes b y k l e x = record {
 }
 
 pub wired-entries : (b : Books) (y : Wire) → Entries b → Entries (wired b y)
-wired-entries b y i = record { room = i .room; lentRoom = i .lentRoom; small = i .small; addressed = i .addressed }
+wired-entries b y i = i
 
 pub wired-uses : (b : Books) (y : Wire) (g : Held) → Uses b g → Uses (wired b y) g
 wired-uses b y g x = record { icm = x .icm; firmware = x .firmware; auxiliary = x .auxiliary; lent = x .lent }
@@ -49,7 +49,7 @@ ready-idle base n b w x e laid s = record {
   owns = x .owns;
   boxes = x .boxes;
   entries = x .entries;
-  bound = within-more (Knows b) (Lies b) (Calm b) (Mine b) (w .card) (λ g m. record { within = knows-bound b g m }) (λ p m. m .1) (quiet-within (Knows b) (Calm b) (w .card) (x .card));
+  bound = within-more (Knows b) (Lies b) (Calm b) (Mine b) (w .card) (λ g m. record { within = knows-bound b (x .entries) g m }) (λ p m. m .1) (quiet-within (Knows b) (Calm b) (w .card) (x .card));
   exact = λ p. record {
     fourteen = e;
     laid = laid;

@@ -1,3 +1,4 @@
+pub mod Slots
 pub mod Courses
 pub mod Closing
 pub mod Blocks
@@ -9,3 +10,5 @@ pub mod Opening
 pub mod Quiet
 pub mod Client
 pub mod Calm
+pub mod Has
+pub mod Named

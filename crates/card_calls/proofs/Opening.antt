@@ -1,6 +1,6 @@
 -- The course of an opening keeps to the card rules, on any card and any host: it ends open, with the card's map exactly the ranges of the layout on their buffers; or
 -- all is given back; or all is kept.
-use Prim.Native.Nat.{ℕ, zero, suc, _+_, _-_, _*_, _^_, _<_}
+use Prim.Native.Nat.{ℕ, zero, suc, _+_, _-_, _*_, _^_, _<_, _≤_}
 use native.Mathlib.Omega.{arith}
 use mathlib.Core.Bool.{Bool, true, false, not, false≢true}
 use mathlib.Core.List.{List, [], _∷_}
@@ -15,7 +15,6 @@ use Rattle.fields.specs.declared.Order.the-variants.{Big}
 use Rattle.fields.proofs.Laws.{Bytes, length-put}
 use Rattle.bars.specs.declared.Size.{Size}
 use Rattle.dma.specs.Buffers.{pagesFor}
-use Rattle.dma.specs.Pages.{table}
 use Rattle.dma.specs.declared.Buffer.{Buffer}
 use Rattle.pci.specs.Script.{Spot}
 use Rattle.pci.specs.declared.Refusal.{Refusal}
@@ -53,9 +52,9 @@ use Rattle.uar.specs.declared.Found.{Found}
 use Rattle.uar.specs.declared.Found.the-variants as u
 use Rattle.work.specs.Work.{looking}
 use Rattle.session.specs.Failures.{failureOf, faultOf, immediateOf, needsReset}
-use Rattle.session.specs.Session.{noBooks, noInfo, wired, after, endSeen, immOf, withInOf, withOutOf}
+use Rattle.session.specs.Session.{noBooks, noInfo, wired, after, endSeen, immOf, withInOf, withOutOf, slotAt, noSlot, named, namedFrom, puts, faOf, auxOf, FA, AUX, INBOX, OUTBOX}
 use Rattle.session.specs.Course.{Here, inbox, outbox, zeroed, Rest, atRest}
-use Rattle.session.specs.declared.Hold.the-variants as o
+use Rattle.session.specs.declared.Slot.{Slot}
 use Rattle.session.specs.declared.Wire.{Wire}
 use Rattle.session.specs.declared.Books.{Books}
 use Rattle.session.specs.declared.Info.{Info}
@@ -66,8 +65,8 @@ use Rattle.session.specs.declared.Failure.{Failure}
 use Rattle.session.specs.declared.Failure.the-variants as f
 use Rattle.session.specs.declared.Closing.{Closing}
 use Rattle.session.specs.declared.Closing.the-variants as c
-use Rattle.closing_plan.specs.Closing.{lendsFrom, emptied, parted}
-use Rattle.opening_plan.specs.Values.{fwFailureOf, layoutIn, rangeAt, noRange, withToggle, withCatas, withOriginal, withInbox, withOutbox, withFa, withAux, nowStarted, withUar, withRevision, withCap, withFunc, withPort}
+use Rattle.closing_plan.specs.Closing.{giving, parted}
+use Rattle.opening_plan.specs.Values.{fwFailureOf, layoutIn, rangeAt, noRange, withToggle, withCatas, withOriginal, nowStarted, withUar, withRevision, withCap, withFunc, withPort}
 use Rattle.opening_plan.specs.Opening.{failsBy, onValue, holds, onMade, opened, queryAdapter, queryFunc, initHca, areaFor, mapIcm, setIcmSize, layingOut, queryPorts, portsOf, queryDevCap, modStat, runFw, fwReply, queryFw, look, giveInbox, makeOutbox, makeInbox, onFound, findUar, firstReset, onClaimed, claim, onEnabled, enable, opening}
 use Rattle.card.specs.Card.{Held, Card, Hold, Host, orElse, second, MayUse, World, mailAt}
 use Rattle.card.specs.Owns.{Owns, InBooks, spotOf}
@@ -80,8 +79,9 @@ use Rattle.card.proofs.Making.{Sound, MadePost, safe-making}
 use Rattle.card_calls.specs.SafeCourse.{SafeCourse}
 use Rattle.card_calls.specs.Ranges.{Capped, Accepted, AsLaid}
 use Rattle.card_calls.proofs.Courses.{Fair, fair-zeroed, safe-run, safe-task, course-pick}
-use Rattle.card_calls.proofs.Closing.{clean-differs, safe-restored, safe-parted, safe-all-freed}
-use Rattle.card_calls.proofs.Books.{knows-owed, knows-uses, knows-bound, ranged, entryOf, each-range}
+use Rattle.card_calls.proofs.Closing.{clean-differs, safe-restored, safe-parted, safe-giving}
+use Rattle.card_calls.proofs.Books.{knows-owed, knows-uses, knows-bound, area-entries, ranged, each-range}
+use Rattle.card_calls.proofs.Slots.{full, MadeIn, making-ends, ends-inbox, ends-outbox, put-there}
 use Rattle.card_calls.proofs.Idle.{moved-boxes, ready-idle}
 use Rattle.card_calls.proofs.Commands.{boxes-mailed, fits-in, fits-out, fits-imm, safe-failed, ready-value, safe-other, safe-good}
 use Rattle.card_calls.proofs.Areas.{Placed, safe-area, enters-fa, enters-aux, enters-range}
@@ -142,7 +142,7 @@ fields-fair fs h q = record {
 -- THE OPENING: `back`, `kept`, `opens` and `early` are what is to hold at each of its ends; at the last nothing was asked of the host
 module _ (base : ℕ → Option Hold) (P : World → Rest → Type 1) (k₀ : Host)
     (back : (n : Info) (y : Failure) (x : Closing) (b : Books) (v : World) → (x ≡ c.Kept → ⊥) → Owns base [] (v .host) → Quiet Empty (v .card) → P v (atRest g.Ended b n y x))
-    (kept : (n : Info) (y : Failure) (b : Books) (v : World) → Owns base (lendsFrom b 0) (v .host) → P v (atRest g.Ended b n y c.Kept))
+    (kept : (n : Info) (y : Failure) (b : Books) (v : World) → Owns base (named b) (v .host) → P v (atRest g.Ended b n y c.Kept))
     (opens : (n : Info) (b : Books) (v : World) → Idle base n b v → P v (atRest (g.Open gv.Nothing) b n f.Nothing c.Clean))
     (early : (n : Info) (y : Failure) (b : Books) (v : World) → v .host ≡ k₀ → P v (atRest g.Ended b n y c.Clean)) where
   out-fair : (h : Here) → Fair h → Fair (zeroed outbox h)
@@ -152,14 +152,14 @@ module _ (base : ℕ → Option Hold) (P : World → Rest → Type 1) (k₀ : Ho
   safe-adapter : (n : Info) (b : Books) (h : Here) (w : World) → Fair h → Ready base b w → b .lists .ranges ≡ 14 → AsLaid n b 14 → b .started ≡ true → SafeCourse w (queryAdapter n b h) P
   unfolding queryAdapter
   safe-adapter n b h w q x e laid s =
-      safe-other base P back kept (withOutOf (b .held) 0x006 0) refl (λ a d j. opened n d j) b (zeroed outbox h) w (out-fair h q)
+      safe-other base P back kept (withOutOf b 0x006 0) refl (λ a d j. opened n d j) b (zeroed outbox h) w (out-fair h q)
       (fits-out b (w .host) (x .boxes) 0x006 0 _ (omega arith) (omega arith) refl) x
       (λ a y j v k z d. opens n (wired b y) v (ready-idle base n (wired b y) v d e laid s))
       (λ a y j v k z t d i u. opens n (wired b (after (b .wire) y)) v (record {
-        owns = subst (Owns base (lendsFrom b 0)) (sym d) (x .owns);
+        owns = subst (Owns base (named b)) (sym d) (x .owns);
         boxes = moved-boxes b (after (b .wire) y) (w .host) (v .host) d (x .boxes);
-        entries = record { room = x .entries .room; lentRoom = x .entries .lentRoom; small = x .entries .small; addressed = x .entries .addressed };
-        bound = within-more (Knows b) (Lies (wired b (after (b .wire) y))) (Calm b) (Mine (wired b (after (b .wire) y))) (v .card) (λ g m. record { within = knows-bound b g m }) (λ p m. m .1) i;
+        entries = x .entries;
+        bound = within-more (Knows b) (Lies (wired b (after (b .wire) y))) (Calm b) (Mine (wired b (after (b .wire) y))) (v .card) (λ g m. record { within = knows-bound b (x .entries) g m }) (λ p m. m .1) i;
         exact = λ p. record {
           fourteen = e;
           laid = laid;
@@ -174,7 +174,7 @@ module _ (base : ℕ → Option Hold) (P : World → Rest → Type 1) (k₀ : Ho
   unfolding queryFunc
   safe-func n b h w q x e laid s =
       course-pick (eqb (n .cap .«num_sys_eqs») 0) _ _ w P (λ t. safe-adapter n b h w q x e laid s)
-      (λ t. safe-good base P back kept (withOutOf (b .held) 0x056 0) refl failureOf
+      (λ t. safe-good base P back kept (withOutOf b 0x056 0) refl failureOf
       (λ a d j. onValue (queryFuncOf (j .outbox)) (λ y. queryAdapter (withFunc n y) d j) n d j) n b (zeroed outbox h) w (out-fair h q)
       (fits-out b (w .host) (x .boxes) 0x056 0 _ (omega arith) (omega arith) refl) x
       (λ a y j v k d. ready-value base P back kept (queryFuncOf (j .outbox)) (λ z. queryAdapter (withFunc n z) (wired b y) j) n (wired b y) j v k d
@@ -183,7 +183,7 @@ module _ (base : ℕ → Option Hold) (P : World → Rest → Type 1) (k₀ : Ho
   safe-init : (n : Info) (b : Books) (h : Here) (w : World) → Fair h → Ready base b w → b .lists .ranges ≡ 14 → AsLaid n b 14 → SafeCourse w (initHca n b h) P
   unfolding initHca
   safe-init n b h w q x e laid =
-      safe-good base P back kept (withInOf (b .held) 0x007 0) refl failureOf (λ a d j. queryFunc n (nowStarted d) j) n b
+      safe-good base P back kept (withInOf b 0x007 0) refl failureOf (λ a d j. queryFunc n (nowStarted d) j) n b
       (holds (filledBy (h .inbox) (fieldsOf (initOf (n .cap) (layoutIn n .rows)))) h) w (fields-fair (fieldsOf (initOf (n .cap) (layoutIn n .rows))) h q)
       (fits-in b (w .host) (x .boxes) 0x007 0 _ (omega arith) (omega arith)) x
       (λ a y j v k d. safe-func n (nowStarted (wired b y)) j v k (record {
@@ -200,7 +200,7 @@ module _ (base : ℕ → Option Hold) (P : World → Rest → Type 1) (k₀ : Ho
           outLess = d .boxes .outLess;
         };
         loud = d .loud;
-        entries = record { room = d .entries .room; lentRoom = d .entries .lentRoom; small = d .entries .small; addressed = d .entries .addressed };
+        entries = d .entries;
       }) e laid refl)
 
   -- THE RANGES from i on
@@ -210,15 +210,16 @@ module _ (base : ℕ → Option Hold) (P : World → Rest → Type 1) (k₀ : Ho
       let t : i ≡ 14 = omega (arith, s) in safe-init n b h w q x (e ∙ t) (subst (AsLaid n b) t laid)
   safe-ranges (suc k) i n b h w s z q x e laid =
       let less : i < 14 = omega (arith, s) in
-      safe-area base P back kept (a.Range i) (rangeAt n i .bytes) (λ y. ranged b (entryOf (rangeAt n i .virt) y)) (mapIcm k (suc i) n) n b h w q x
-      (λ y v t. enters-range base P back kept n i b y v (z .placed i less) (subst (λ (j : ℕ). j < 14) (sym e) less) (x .entries) t)
-      (λ y d j v p o t. safe-ranges k (suc i) n (wired (ranged b (entryOf (rangeAt n i .virt) y)) d) j v (omega (arith, s)) z o t (ap (λ (m : ℕ). m + 1) e ∙ (let g : i + 1 ≡ suc i = omega arith in g)) (more-laid y p less))
+      safe-area base P back kept (a.Range i) (rangeAt n i .bytes) (λ y. ranged b (full (rangeAt n i .virt) y)) (mapIcm k (suc i) n) n b h w q x
+      (omega (arith, less)) (x .entries .free i (subst (λ (j : ℕ). j ≤ i) (sym e) (let g : i ≤ i = omega arith in g)) less)
+      (λ y v t. enters-range base P back kept n i b y v (z .placed i less) e less (x .entries) t)
+      (λ y d j v p o t. safe-ranges k (suc i) n (wired (ranged b (full (rangeAt n i .virt) y)) d) j v (omega (arith, s)) z o t (ap (λ (m : ℕ). m + 1) e ∙ (let g : i + 1 ≡ suc i = omega arith in g)) (more-laid y p less))
     where
-      more-laid : (y : Buffer) → pagesFor (rangeAt n i .bytes) ≡ value (y .pages) → i < 14 → AsLaid n (ranged b (entryOf (rangeAt n i .virt) y)) (suc i)
+      more-laid : (y : Buffer) → pagesFor (rangeAt n i .bytes) ≡ value (y .pages) → i < 14 → AsLaid n (ranged b (full (rangeAt n i .virt) y)) (suc i)
       more-laid y p less = (
         z .accepted,
         λ j g.
-            each-range b (x .entries) (subst (λ (m : ℕ). m < 14) (sym e) less) (entryOf (rangeAt n i .virt) y)
+            each-range b (x .entries) (subst (λ (m : ℕ). m < 14) (sym e) less) (full (rangeAt n i .virt) y)
             (λ k z. (z .virt ≡ rangeAt n k .virt) × (pagesFor (rangeAt n k .bytes) ≡ value (z .pages)))
             (λ k t. laid .1 k (subst (λ (m : ℕ). k < m) e t)) (subst (λ (m : ℕ). (rangeAt n i .virt ≡ rangeAt n m .virt) × (pagesFor (rangeAt n m .bytes) ≡ value (y .pages))) (sym e) (refl, p)) j
             (subst (λ (m : ℕ). j < m + 1) (sym e) (omega (arith, g))),
@@ -226,7 +227,7 @@ module _ (base : ℕ → Option Hold) (P : World → Rest → Type 1) (k₀ : Ho
 
   -- nothing is mapped yet
   abbrev Bare : Books → Type 0
-  Bare b = (b .held .aux ≡ o.Absent) × (b .lists .ranges ≡ 0)
+  Bare b = (auxOf b ≡ noSlot) × (b .lists .ranges ≡ 0)
 
   none-laid : (n : Info) (b : Books) → Laid n → AsLaid n b 0
   none-laid n b z = (z .accepted, λ k h. absurd (let z : ⊥ = omega (arith, h) in z))
@@ -236,9 +237,9 @@ module _ (base : ℕ → Option Hold) (P : World → Rest → Type 1) (k₀ : Ho
   safe-size n b h w z q x e =
       safe-good base P back kept (immOf 0xffd 0 0 (layoutIn n .total)) refl failureOf (λ s d j. areaFor a.Aux (immediateOf s * 4096) (mapIcm 14 0 n) n d j) n b h w q
       (fits-imm 0xffd (layoutIn n .total) _ (omega arith) refl (z .total)) x
-      (λ s y j v k d. safe-area base P back kept a.Aux (immediateOf s * 4096) (withAux (wired b y)) (mapIcm 14 0 n) n (wired b y) j v k d
+      (λ s y j v k d. safe-area base P back kept a.Aux (immediateOf s * 4096) (λ t. puts AUX (full 0 t) (wired b y)) (mapIcm 14 0 n) n (wired b y) j v k d (omega arith) (e .0)
       (λ t i m. enters-aux base P back kept (immediateOf s * 4096) n (wired b y) t i (e .0) (d .entries) m)
-      (λ t d₁ i u p o m. safe-ranges 14 0 n (wired (withAux (wired b y) t) d₁) i u refl z o m (e .1) (none-laid n (withAux b t) z)))
+      (λ t d₁ i u p o m. safe-ranges 14 0 n (wired (puts AUX (full 0 t) (wired b y)) d₁) i u refl z o m (e .1) (none-laid n (puts AUX (full 0 t) b) z)))
 
   safe-laying : (n : Info) (b : Books) (h : Here) (w : World) → Capped n → Fair h → Ready base b w → Bare b → SafeCourse w (layingOut n b h) P
   unfolding layingOut
@@ -249,7 +250,7 @@ module _ (base : ℕ → Option Hold) (P : World → Rest → Type 1) (k₀ : Ho
   unfolding queryPorts
   safe-ports zero p n b h w s z q x e = safe-laying n b h w z q x e
   safe-ports (suc k) p n b h w s z q x e =
-      safe-good base P back kept (withOutOf (b .held) 0x043 p) refl failureOf
+      safe-good base P back kept (withOutOf b 0x043 p) refl failureOf
       (λ a d j. onValue (queryPortOf (j .outbox) p) (λ y. queryPorts k (suc p) (withPort n p y) d j) n d j) n b (zeroed outbox h) w (out-fair h q)
       (fits-out b (w .host) (x .boxes) 0x043 p _ (omega arith) (omega (arith, s)) refl) x
       (λ a y j v i d. ready-value base P back kept (queryPortOf (j .outbox) p) (λ t. queryPorts k (suc p) (withPort n p t) (wired b y) j) n (wired b y) j v i d
@@ -262,7 +263,7 @@ module _ (base : ℕ → Option Hold) (P : World → Rest → Type 1) (k₀ : Ho
   safe-cap : (n : Info) (b : Books) (h : Here) (w : World) → Fair h → Ready base b w → Bare b → SafeCourse w (queryDevCap n b h) P
   unfolding queryDevCap
   safe-cap n b h w q x e =
-      safe-good base P back kept (withOutOf (b .held) 0x003 0) refl failureOf
+      safe-good base P back kept (withOutOf b 0x003 0) refl failureOf
       (λ a d j. onValue (capabilityOf (j .outbox) (n .uar .size)) (λ y. queryPorts (portsOf (withCap n y)) 1 (withCap n y) d j) n d j) n b (zeroed outbox h) w (out-fair h q)
       (fits-out b (w .host) (x .boxes) 0x003 0 _ (omega arith) (omega arith) refl) x
       (λ a y j v i d. ready-value base P back kept (capabilityOf (j .outbox) (n .uar .size)) (λ t. queryPorts (portsOf (withCap n t)) 1 (withCap n t) (wired b y) j) n (wired b y) j v i d
@@ -273,7 +274,7 @@ module _ (base : ℕ → Option Hold) (P : World → Rest → Type 1) (k₀ : Ho
   safe-stat : (n : Info) (b : Books) (h : Here) (w : World) → Fair h → Ready base b w → Bare b → SafeCourse w (modStat n b h) P
   unfolding modStat
   safe-stat n b h w q x e =
-      safe-other base P back kept (withInOf (b .held) 0x034 0) refl (λ a d j. pick (needsReset a) (failsBy a n d j) (queryDevCap n d j)) b (holds (filledBy (h .inbox) modStatCfg) h) w
+      safe-other base P back kept (withInOf b 0x034 0) refl (λ a d j. pick (needsReset a) (failsBy a n d j) (queryDevCap n d j)) b (holds (filledBy (h .inbox) modStatCfg) h) w
       (fields-fair modStatCfg h q) (fits-in b (w .host) (x .boxes) 0x034 0 _ (omega arith) (omega arith)) x seen unseen
     where
       seen : (a : CmdResult) (y : Wire) (j : Here) (v : World) → Fair j → endSeen a ≡ true → Ready base (wired b y) v → SafeCourse v (pick (needsReset a) (failsBy a n (wired b y) j) (queryDevCap n (wired b y) j)) P
@@ -284,22 +285,22 @@ module _ (base : ℕ → Option Hold) (P : World → Rest → Type 1) (k₀ : Ho
       seen (r.Bus us) y j v k z d = absurd (false≢true z)
 
       unseen : (a : CmdResult) (y : CmdEnd) (j : Here) (v : World) → Fair j → y .result ≡ a → endSeen a ≡ false → v .host ≡ w .host → Within (Knows b) (Calm b) (v .card)
-          → Out (postedAs (b .wire .toggle) (withInOf (b .held) 0x034 0) (mailAt (w .host) (filledBy (h .inbox) modStatCfg))) (Knows b) (Calm b) a (v .card)
+          → Out (postedAs (b .wire .toggle) (withInOf b 0x034 0) (mailAt (w .host) (filledBy (h .inbox) modStatCfg))) (Knows b) (Calm b) a (v .card)
           → SafeCourse v (pick (needsReset a) (failsBy a n (wired b (after (b .wire) y)) j) (queryDevCap n (wired b (after (b .wire) y)) j)) P
       unseen (r.Done s us) y j v k p z d i t = absurd (false≢true (sym z))
       unseen (r.Status s us) y j v k p z d i t = absurd (false≢true (sym z))
       unseen (r.Timeout us) y j v k p z d i t =
           safe-failed base P back kept (r.Timeout us) (failureOf (r.Timeout us)) n b (after (b .wire) y) j v
-          (postedAs (b .wire .toggle) (withInOf (b .held) 0x034 0) (mailAt (w .host) (filledBy (h .inbox) modStatCfg))) (Knows b) (Calm b) refl k (subst Mailed (sym d) (boxes-mailed base b (w .host) (x .boxes) (x .owns)))
-          (subst (Owns base (lendsFrom b 0)) (sym d) (x .owns)) (x .entries) (x .loud) (λ g. knows-owed b g (x .entries)) t
+          (postedAs (b .wire .toggle) (withInOf b 0x034 0) (mailAt (w .host) (filledBy (h .inbox) modStatCfg))) (Knows b) (Calm b) refl k (subst Mailed (sym d) (boxes-mailed base b (w .host) (x .boxes) (x .owns)))
+          (subst (Owns base (named b)) (sym d) (x .owns)) (x .entries) (x .loud) (λ g. knows-owed b g (x .entries)) t
       unseen r.Busy y j v k p z d i t =
           safe-failed base P back kept r.Busy (failureOf r.Busy) n b (after (b .wire) y) j v
-          (postedAs (b .wire .toggle) (withInOf (b .held) 0x034 0) (mailAt (w .host) (filledBy (h .inbox) modStatCfg))) (Knows b) (Calm b) refl k (subst Mailed (sym d) (boxes-mailed base b (w .host) (x .boxes) (x .owns)))
-          (subst (Owns base (lendsFrom b 0)) (sym d) (x .owns)) (x .entries) (x .loud) (λ g. knows-owed b g (x .entries)) t
+          (postedAs (b .wire .toggle) (withInOf b 0x034 0) (mailAt (w .host) (filledBy (h .inbox) modStatCfg))) (Knows b) (Calm b) refl k (subst Mailed (sym d) (boxes-mailed base b (w .host) (x .boxes) (x .owns)))
+          (subst (Owns base (named b)) (sym d) (x .owns)) (x .entries) (x .loud) (λ g. knows-owed b g (x .entries)) t
       unseen (r.Bus us) y j v k p z d i t =
           safe-failed base P back kept (r.Bus us) (failureOf (r.Bus us)) n b (after (b .wire) y) j v
-          (postedAs (b .wire .toggle) (withInOf (b .held) 0x034 0) (mailAt (w .host) (filledBy (h .inbox) modStatCfg))) (Knows b) (Calm b) refl k (subst Mailed (sym d) (boxes-mailed base b (w .host) (x .boxes) (x .owns)))
-          (subst (Owns base (lendsFrom b 0)) (sym d) (x .owns)) (x .entries) (x .loud) (λ g. knows-owed b g (x .entries)) t
+          (postedAs (b .wire .toggle) (withInOf b 0x034 0) (mailAt (w .host) (filledBy (h .inbox) modStatCfg))) (Knows b) (Calm b) refl k (subst Mailed (sym d) (boxes-mailed base b (w .host) (x .boxes) (x .owns)))
+          (subst (Owns base (named b)) (sym d) (x .owns)) (x .entries) (x .loud) (λ g. knows-owed b g (x .entries)) t
 
   safe-run-fw : (n : Info) (b : Books) (h : Here) (w : World) → Fair h → Ready base b w → Bare b → SafeCourse w (runFw n b h) P
   unfolding runFw
@@ -323,36 +324,36 @@ module _ (base : ℕ → Option Hold) (P : World → Rest → Type 1) (k₀ : Ho
       outLess = d .boxes .outLess;
     };
     loud = l;
-    entries = record { room = d .entries .room; lentRoom = d .entries .lentRoom; small = d .entries .small; addressed = d .entries .addressed };
+    entries = d .entries;
   }
 
   -- where the catastrophic buffer is known
-  safe-reply : (n : Info) (b : Books) (h : Here) (w : World) → Fair h → Ready base b w → b .held .fa ≡ o.Absent → Bare b → SafeCourse w (fwReply n b h) P
+  safe-reply : (n : Info) (b : Books) (h : Here) (w : World) → Fair h → Ready base b w → faOf b ≡ noSlot → Bare b → SafeCourse w (fwReply n b h) P
   safe-reply n b h w q x z e =
       let d : Books = withCatas b (fwHeld (h .outbox) (n .uar .index)) in
       let k : Ready base (withCatas b (fwHeld (h .outbox) (n .uar .index))) w = ready-wired b (withCatas b (fwHeld (h .outbox) (n .uar .index)) .wire) w (x .loud) x in
       ready-value base P back kept (queryFwOf (h .outbox) (n .uar .index))
       (λ y. areaFor a.Fa (y .pages * 4096) (runFw (withRevision n (y .rev))) (withRevision n (y .rev)) (withCatas b (fwHeld (h .outbox) (n .uar .index))) h) n
       (withCatas b (fwHeld (h .outbox) (n .uar .index))) h w q k
-      (λ y t. safe-area base P back kept a.Fa (y .pages * 4096) (withFa (withCatas b (fwHeld (h .outbox) (n .uar .index)))) (runFw (withRevision n (y .rev))) (withRevision n (y .rev))
-      (withCatas b (fwHeld (h .outbox) (n .uar .index))) h w q k
+      (λ y t. safe-area base P back kept a.Fa (y .pages * 4096) (λ s. puts FA (full 0 s) (withCatas b (fwHeld (h .outbox) (n .uar .index)))) (runFw (withRevision n (y .rev))) (withRevision n (y .rev))
+      (withCatas b (fwHeld (h .outbox) (n .uar .index))) h w q k (omega arith) z
       (λ s v i. enters-fa base P back kept (y .pages * 4096) (withRevision n (y .rev)) (withCatas b (fwHeld (h .outbox) (n .uar .index))) s v z (k .entries) i)
-      (λ s i j v p o m. safe-run-fw (withRevision n (y .rev)) (wired (withFa (withCatas b (fwHeld (h .outbox) (n .uar .index))) s) i) j v o m e))
+      (λ s i j v p o m. safe-run-fw (withRevision n (y .rev)) (wired (puts FA (full 0 s) (withCatas b (fwHeld (h .outbox) (n .uar .index)))) i) j v o m (put-there (b .lists .slots) FA AUX (full 0 s) (λ g. let f : ⊥ = omega (arith, g) in f) ∙ e .0, e .1)))
 
-  safe-query-fw : (n : Info) (b : Books) (h : Here) (w : World) → Fair h → Ready base b w → b .held .fa ≡ o.Absent → Bare b → SafeCourse w (queryFw n b h) P
+  safe-query-fw : (n : Info) (b : Books) (h : Here) (w : World) → Fair h → Ready base b w → faOf b ≡ noSlot → Bare b → SafeCourse w (queryFw n b h) P
   unfolding queryFw
   safe-query-fw n b h w q x z e =
-      safe-good base P back kept (withOutOf (b .held) 0x004 0) refl fwFailureOf (λ a d j. fwReply n d j) n b (zeroed outbox h) w (out-fair h q)
+      safe-good base P back kept (withOutOf b 0x004 0) refl fwFailureOf (λ a d j. fwReply n d j) n b (zeroed outbox h) w (out-fair h q)
       (fits-out b (w .host) (x .boxes) 0x004 0 _ (omega arith) (omega arith) refl) x
       (λ a y j v k d. safe-reply n (wired b y) j v k d z e)
 
-  safe-look : (n : Info) (b : Books) (h : Here) (w : World) → Fair h → Ready base b w → b .held .fa ≡ o.Absent → Bare b → SafeCourse w (look n b h) P
+  safe-look : (n : Info) (b : Books) (h : Here) (w : World) → Fair h → Ready base b w → faOf b ≡ noSlot → Bare b → SafeCourse w (look n b h) P
   unfolding look
   safe-look n b h w q x z e =
-      safe-task (λ t j. queryFw n (withToggle b t) j) (λ v t. (v .host ≡ w .host) × Quiet (Knows b) (v .card)) P looking h w q
+      safe-task (λ t d j. queryFw n (withToggle d t) j) (λ v t. (v .host ≡ w .host) × Quiet (Knows b) (v .card)) P looking b h w q
       (safe-still (h .inbox) looking (Quiet (Knows b)) (w .host) w looking-still (quiet-stable (Knows b)) refl (x .card))
       (λ v t j k d s. safe-query-fw n (withToggle b t) j v k (ready-wired b (withToggle b t .wire) v (x .loud) (record {
-        owns = subst (Owns base (lendsFrom b 0)) (sym (s .0)) (x .owns);
+        owns = subst (Owns base (named b)) (sym (s .0)) (x .owns);
         card = s .1;
         boxes = record {
           inbox = x .boxes .inbox;
@@ -393,55 +394,95 @@ module _ (base : ℕ → Option Hold) (P : World → Rest → Type 1) (k₀ : Ho
     lent = λ d z. z;
   })
 
-  no-entries : (s : ℕ) (x y : Buffer) → Entries (withOutbox (withInbox (start s) x) y)
-  no-entries s x y = record { room = refl; lentRoom = refl; small = λ k h. absurd (let q : ⊥ = omega (arith, h) in q); addressed = λ k h. absurd (let q : ⊥ = omega (arith, h) in q) }
+  none-there : (m k : ℕ) → slotAt (replicate m noSlot) k ≡ noSlot
+  none-there zero k = refl
+  none-there (suc m) zero = refl
+  none-there (suc m) (suc k) = none-there m k
+
+  start-entries : (s : ℕ) → Entries (start s)
+  start-entries s = record {
+    room = refl;
+    few = omega arith;
+    small = λ k h. absurd (let q : ⊥ = omega (arith, h) in q);
+    addressed = λ k h. absurd (let q : ⊥ = omega (arith, h) in q);
+    held = λ k h. absurd (let q : ⊥ = omega (arith, h) in q);
+    free = λ k h m. none-there 82 (64 + k);
+    unlent = λ k h m. none-there 82 k;
+  }
+
+  -- the books with the inbox, and with both mailboxes
+  abbrev boxed : ℕ → Buffer → Books
+  boxed s x = puts INBOX (full 0 x) (start s)
+
+  abbrev both : ℕ → Buffer → Buffer → Books
+  both s x y = puts OUTBOX (full 0 y) (boxed s x)
+
+  none-named : (s : ℕ) → named (start s) ≡ []
+  unfolding namedFrom
+  none-named s = refl
+
+  one-named : (s : ℕ) (x : Buffer) → named (boxed s x) ≡ x ∷ []
+  unfolding namedFrom
+  one-named s x = refl
+
+  two-named : (s : ℕ) (x y : Buffer) → named (both s x y) ≡ x ∷ y ∷ []
+  unfolding namedFrom
+  two-named s x y = refl
+
+  both-entries : (s : ℕ) (x y : Buffer) → Entries (both s x y)
+  both-entries s x y = area-entries (boxed s x) (area-entries (start s) (start-entries s) INBOX (omega arith) (full 0 x)) OUTBOX (omega arith) (full 0 y)
 
   safe-outbox : (s : ℕ) (x : Buffer) (n : Info) (h : Here) (w : World) → Fair h → Owns base (x ∷ []) (w .host) → Quiet Nothing (w .card) → w .host .inbox ≡ some (spotOf x) → w .host .outbox ≡ none → x .dev < 2 ^ 64
-      → SafeCourse w (makeOutbox n (withInbox (start s) x) h) P
-  unfolding makeOutbox giveInbox table
+      → SafeCourse w (makeOutbox n (boxed s x) h) P
+  unfolding makeOutbox giveInbox
   safe-outbox s x n h w q i k p o₁ less =
-      safe-run (λ y j. onMade y (λ z. look n (withOutbox (withInbox (start s) x) z) j) (λ e. giveInbox e n (withInbox (start s) x) j))
-      (MadePost [] base (x ∷ []) (Quiet Nothing) (quiet-stable Nothing) (nothing-bound (x ∷ [])) (w .host) 4096) P outbox (making 4096) h w q
-      (λ d. safe-making d base (x ∷ []) (Quiet Nothing) (quiet-stable Nothing) (nothing-bound (x ∷ [])) (w .host) 4096 w refl i k) at
+      safe-run (λ y d j. onMade y (λ z. look n d j) (λ e. giveInbox e n d j))
+      (MadePost [] base (x ∷ []) (Quiet Nothing) (quiet-stable Nothing) (nothing-bound (x ∷ [])) (w .host) 4096) P outbox (making 4096) (boxed s x) (MadeIn OUTBOX 0 (boxed s x)) h w q
+      (λ d. safe-making d base (x ∷ []) (Quiet Nothing) (quiet-stable Nothing) (nothing-bound (x ∷ [])) (w .host) 4096 w refl i k)
+      (ends-outbox (making 4096) (boxed s x) (MadeIn OUTBOX 0 (boxed s x)) (making-ends OUTBOX 0 (boxed s x) (omega arith) refl 4096)) at
     where
-      at : (v : World) (y : Made) (j : Here) → Fair j → MadePost [] base (x ∷ []) (Quiet Nothing) (quiet-stable Nothing) (nothing-bound (x ∷ [])) (w .host) 4096 v y
-          → SafeCourse v (onMade y (λ z. look n (withOutbox (withInbox (start s) x) z) j) (λ e. giveInbox e n (withInbox (start s) x) j)) P
-      at v (m.Refused e) j fair z =
-          safe-all-freed n (f.By (faultOf e)) P base (x ∷ []) c.Clean (emptied (withInbox (start s) x)) (λ u a b. back n (f.By (faultOf e)) c.Clean (emptied (withInbox (start s) x)) u clean-differs a b) j v fair (z .0)
-          (quiet-empty (v .card) (z .1))
-      at v (m.Ready y) j fair z =
-          safe-look n (withOutbox (withInbox (start s) x) y) j v fair (record {
-            owns = owns-perm base (y ∷ x ∷ []) (x ∷ y ∷ []) (v .host) (swap y x []) (z .0);
-            card = (z .1 .0, nothing-known (withOutbox (withInbox (start s) x) y) (v .card .held) refl (z .1 .1));
+      at : (v : World) (y : Made) (d : Books) (j : Here) → Fair j → MadePost [] base (x ∷ []) (Quiet Nothing) (quiet-stable Nothing) (nothing-bound (x ∷ [])) (w .host) 4096 v y → MadeIn OUTBOX 0 (boxed s x) y d
+          → SafeCourse v (onMade y (λ z. look n d j) (λ e. giveInbox e n d j)) P
+      at v (m.Refused e) d j fair z same =
+          subst (λ (b : Books). SafeCourse v (giving n (f.By (faultOf e)) c.Clean b j) P) (sym same)
+          (safe-giving n (f.By (faultOf e)) P base (λ t b u g a r. back n (f.By (faultOf e)) t b u g a r) c.Clean (boxed s x) j v clean-differs fair
+          (subst (λ (bs : List Buffer). Owns base bs (v .host)) (sym (one-named s x)) (z .0)) (quiet-empty (v .card) (z .1)))
+      at v (m.Ready y) d j fair z same =
+          subst (λ (b : Books). SafeCourse v (look n b j) P) (sym same)
+          (safe-look n (both s x y) j v fair (record {
+            owns = subst (λ (bs : List Buffer). Owns base bs (v .host)) (sym (two-named s x y)) (owns-perm base (y ∷ x ∷ []) (x ∷ y ∷ []) (v .host) (swap y x []) (z .0));
+            card = (z .1 .0, nothing-known (both s x y) (v .card .held) refl (z .1 .1));
             boxes = record {
               inbox = x;
               outbox = y;
-              inHeld = refl;
-              outHeld = refl;
+              inHeld = (refl, refl);
+              outHeld = (refl, refl);
               inAt = z .4 .0 ∙ ap (λ (t : Option Spot). orElse t (spotOf y)) p;
               outAt = z .4 .1 ∙ ap (λ (t : Option Spot). second t (w .host .outbox) (spotOf y)) p ∙ ap (λ (t : Option Spot). orElse t (spotOf y)) o₁;
               inLess = less;
               outLess = below y (z .2) (z .3);
             };
-            entries = no-entries s x y;
+            entries = both-entries s x y;
             loud = refl;
-          }) refl (refl, refl)
+          }) refl (refl, refl))
 
   safe-inbox : (s : ℕ) (n : Info) (h : Here) (w : World) → Fair h → Owns base [] (w .host) → Quiet Nothing (w .card) → w .host .inbox ≡ none → w .host .outbox ≡ none → SafeCourse w (makeInbox n (start s) h) P
   unfolding makeInbox
   safe-inbox s n h w q i k p o₁ =
-      safe-run (λ y j. onMade y (λ x. makeOutbox n (withInbox (start s) x) j) (λ e. parted n (f.By (faultOf e)) c.Clean (start s) j))
-      (MadePost [] base [] (Quiet Nothing) (quiet-stable Nothing) (nothing-bound []) (w .host) 4096) P inbox (making 4096) h w q
-      (λ d. safe-making d base [] (Quiet Nothing) (quiet-stable Nothing) (nothing-bound []) (w .host) 4096 w refl i k) at
+      safe-run (λ y d j. onMade y (λ x. makeOutbox n d j) (λ e. parted n (f.By (faultOf e)) c.Clean d j))
+      (MadePost [] base [] (Quiet Nothing) (quiet-stable Nothing) (nothing-bound []) (w .host) 4096) P inbox (making 4096) (start s) (MadeIn INBOX 0 (start s)) h w q
+      (λ d. safe-making d base [] (Quiet Nothing) (quiet-stable Nothing) (nothing-bound []) (w .host) 4096 w refl i k)
+      (ends-inbox (making 4096) (start s) (MadeIn INBOX 0 (start s)) (making-ends INBOX 0 (start s) (omega arith) refl 4096)) at
     where
-      at : (v : World) (y : Made) (j : Here) → Fair j → MadePost [] base [] (Quiet Nothing) (quiet-stable Nothing) (nothing-bound []) (w .host) 4096 v y
-          → SafeCourse v (onMade y (λ x. makeOutbox n (withInbox (start s) x) j) (λ e. parted n (f.By (faultOf e)) c.Clean (start s) j)) P
-      at v (m.Refused e) j fair z =
-          safe-parted n (f.By (faultOf e)) P (v .host) (Quiet Nothing) (quiet-stable Nothing) (λ a b d t. t) c.Clean (start s)
-          (λ y a b. back n (f.By (faultOf e)) c.Clean (start s) y clean-differs (subst (Owns base []) (sym a) (z .0)) (quiet-empty (y .card) b)) j v fair refl (z .1)
-      at v (m.Ready x) j fair z =
-          safe-outbox s x n j v fair (z .0) (z .1) (z .4 .0 ∙ ap (λ (t : Option Spot). orElse t (spotOf x)) p)
-          (z .4 .1 ∙ ap (λ (t : Option Spot). second t (w .host .outbox) (spotOf x)) p ∙ o₁) (below x (z .2) (z .3))
+      at : (v : World) (y : Made) (d : Books) (j : Here) → Fair j → MadePost [] base [] (Quiet Nothing) (quiet-stable Nothing) (nothing-bound []) (w .host) 4096 v y → MadeIn INBOX 0 (start s) y d
+          → SafeCourse v (onMade y (λ x. makeOutbox n d j) (λ e. parted n (f.By (faultOf e)) c.Clean d j)) P
+      at v (m.Refused e) d j fair z same =
+          safe-parted n (f.By (faultOf e)) P (v .host) (Quiet Nothing) (quiet-stable Nothing) (λ a b d t. t) c.Clean d
+          (λ y a b. back n (f.By (faultOf e)) c.Clean d y clean-differs (subst (Owns base []) (sym a) (z .0)) (quiet-empty (y .card) b)) j v fair refl (z .1)
+      at v (m.Ready x) d j fair z same =
+          subst (λ (b : Books). SafeCourse v (makeOutbox n b j) P) (sym same)
+          (safe-outbox s x n j v fair (z .0) (z .1) (z .4 .0 ∙ ap (λ (t : Option Spot). orElse t (spotOf x)) p)
+          (z .4 .1 ∙ ap (λ (t : Option Spot). second t (w .host .outbox) (spotOf x)) p ∙ o₁) (below x (z .2) (z .3)))
 
   -- no BAR was found: nothing is torn down
   safe-refused : (s : ℕ) (n : Info) (y : Refusal) (h : Here) (w : World) → Fair h → Owns base [] (w .host) → Quiet Nothing (w .card)
@@ -453,7 +494,7 @@ module _ (base : ℕ → Option Hold) (P : World → Rest → Type 1) (k₀ : Ho
   safe-find : (s : ℕ) (n : Info) (h : Here) (w : World) → Fair h → Owns base [] (w .host) → Quiet Nothing (w .card) → w .host .inbox ≡ none → w .host .outbox ≡ none → SafeCourse w (findUar n (start s) h) P
   unfolding findUar
   safe-find s n h w q i k p o₁ =
-      safe-task (λ y j. onFound y n (start s) j) (λ v y. (v .host ≡ w .host) × Quiet Nothing (v .card)) P finding h w q
+      safe-task (λ y d j. onFound y n d j) (λ v y. (v .host ≡ w .host) × Quiet Nothing (v .card)) P finding (start s) h w q
       (safe-still (h .inbox) finding (Quiet Nothing) (w .host) w finding-still (quiet-stable Nothing) refl k) (λ v y j fair d z. at y v j fair z)
     where
       at : (y : Found) (v : World) (j : Here) → Fair j → (v .host ≡ w .host) × Quiet Nothing (v .card) → SafeCourse v (onFound y n (start s) j) P
@@ -466,7 +507,7 @@ module _ (base : ℕ → Option Hold) (P : World → Rest → Type 1) (k₀ : Ho
   safe-first : (s : ℕ) (n : Info) (h : Here) (w : World) → Fair h → w .host ≡ k₀ → Owns base [] (w .host) → w .host .inbox ≡ none → w .host .outbox ≡ none → SafeCourse w (firstReset n (start s) h) P
   unfolding firstReset
   safe-first s n h w q e i p o₁ =
-      safe-task (λ y j. pick (isGood y) (findUar n (start s) j) (parted n (f.By x.Reset) c.Clean (start s) j)) (ResetPost (w .host)) P reset h w q (safe-reset (h .inbox) (w .host) w refl) (λ v y j fair d z.
+      safe-task (λ y d j. pick (isGood y) (findUar n d j) (parted n (f.By x.Reset) c.Clean d j)) (ResetPost (w .host)) P reset (start s) h w q (safe-reset (h .inbox) (w .host) w refl) (λ v y j fair d z.
       course-pick (isGood y) _ _ v P
       (λ t. safe-find s n j v fair (subst (Owns base []) (sym (z .0)) i) (z .1 t .1) (ap (λ (l : Host). l .inbox) (z .0) ∙ p) (ap (λ (l : Host). l .outbox) (z .0) ∙ o₁))
       (λ t. safe-parted n (f.By x.Reset) P (v .host) (λ y. y ≡ y) (λ a b d t. refl) (λ a b d t. refl) c.Clean (start s)
@@ -475,7 +516,7 @@ module _ (base : ℕ → Option Hold) (P : World → Rest → Type 1) (k₀ : Ho
   safe-claim : (s : ℕ) (n : Info) (h : Here) (w : World) → Fair h → w .host ≡ k₀ → Owns base [] (w .host) → w .host .inbox ≡ none → w .host .outbox ≡ none → SafeCourse w (claim n (start s) h) P
   unfolding claim
   safe-claim s n h w q e i p o₁ =
-      safe-task (λ y j. onClaimed y n (start s) j) (λ v y. (v .host ≡ w .host) × (v .card ≡ v .card)) P claiming h w q
+      safe-task (λ y d j. onClaimed y n d j) (λ v y. (v .host ≡ w .host) × (v .card ≡ v .card)) P claiming (start s) h w q
       (safe-still (h .inbox) claiming (λ y. y ≡ y) (w .host) w claiming-still (λ a b d t. refl) refl refl) (λ v y j fair d z. at y v j fair (z .0))
     where
       at : (y : Claimed) (v : World) (j : Here) → Fair j → v .host ≡ w .host → SafeCourse v (onClaimed y n (start s) j) P
@@ -488,7 +529,7 @@ module _ (base : ℕ → Option Hold) (P : World → Rest → Type 1) (k₀ : Ho
   pub safe-opening : (h : Here) (w : World) → Fair h → w .host ≡ k₀ → Owns base [] (w .host) → w .host .inbox ≡ none → w .host .outbox ≡ none → SafeCourse w (opening h) P
   unfolding enable
   safe-opening h w q e i p o₁ =
-      safe-task (λ y j. onEnabled y noInfo noBooks j) (λ v y. (v .host ≡ w .host) × (v .card ≡ v .card)) P attributing h w q
+      safe-task (λ y d j. onEnabled y noInfo d j) (λ v y. (v .host ≡ w .host) × (v .card ≡ v .card)) P attributing noBooks h w q
       (safe-still (h .inbox) attributing (λ y. y ≡ y) (w .host) w attributing-still (λ a b d t. refl) refl refl) (λ v y j fair d z. at y v j fair (z .0))
     where
       at : (y : Attributes) (v : World) (j : Here) → Fair j → v .host ≡ w .host → SafeCourse v (onEnabled y noInfo noBooks j) P

@@ -8,7 +8,7 @@ use lib.Dec.{eqb}
 use Rattle.hcr.specs.Words.{isReserved}
 use Rattle.hcr.specs.declared.Post.{Post}
 use Rattle.tasks.specs.Parting.{quieting}
-use Rattle.session.specs.Session.{wired, after, broken, silent, icmAt, immOf}
+use Rattle.session.specs.Session.{wired, after, broken, silent, icmAt, immOf, isHeld, faOf, auxOf}
 use Rattle.session.specs.Course.{Course, ret, Here, here, left, sends, Rest, atRest}
 use Rattle.session.specs.declared.Wire.{Wire}
 use Rattle.session.specs.declared.Books.{Books}
@@ -17,7 +17,7 @@ use Rattle.session.specs.declared.Gave.the-variants as gv
 use Rattle.session.specs.declared.Stage.the-variants as g
 use Rattle.session.specs.declared.Failure.{Failure}
 use Rattle.session.specs.declared.Closing.the-variants as c
-use Rattle.closing_plan.specs.Closing.{isDone, isHeld, undoPost, popped, UNDOS, failing, quieted, quiescing, stopped, onward, unmapFa, unmapAux, unmapping, closeHca, undoing}
+use Rattle.closing_plan.specs.Closing.{isDone, undoPost, popped, UNDOS, failing, quieted, quiescing, stopped, onward, unmapFa, unmapAux, unmapping, closeHca, undoing}
 use Rattle.card.specs.Card.{Held, Command, Card, kind, effect, IsMap, Host, World, mailAt}
 use Rattle.card.specs.Known.{Fits, Mailed, Within, postedAs}
 use Rattle.card.proofs.Command.{out-within, within-stable}
@@ -43,7 +43,7 @@ module _ (n : Info) (f : Failure) (P : World → Rest → Type 1) (l : Host) (b 
   safe-quieted : (y : Wire) (h : Here) (w : World) → y .silent ≡ true → Fair h → w .host ≡ l → Known (w .card) → SafeCourse w (quieted n f (wired b y) h) P
   unfolding quieted
   safe-quieted y h w s q e k =
-      safe-task (λ u j. ret (left j) (atRest (g.Open gv.Nothing) (wired b (broken y)) n f c.Clean)) (λ v u. (v .host ≡ l) × Known (v .card)) P quieting h w q
+      safe-task (λ u d j. ret (left j) (atRest (g.Open gv.Nothing) d n f c.Clean)) (λ v u. (v .host ≡ l) × Known (v .card)) P quieting (wired b (broken y)) h w q
       (safe-quieting (h .inbox) Known l (within-stable (Lies b) (Mine b)) (λ k o v z. record { now = z .now; then = z .then }) w e k) (λ v a j k d m. quiets y v s (m .0) (m .1))
 
   safe-ends : (y : Wire) (h : Here) (w : World) → y .silent ≡ true → Fair h → w .host ≡ l → Known (w .card) → SafeCourse w (failing n f (wired b y) h) P
@@ -71,23 +71,23 @@ module _ (n : Info) (f : Failure) (P : World → Rest → Type 1) (l : Host) (b 
   safe-unmap-fa : (y : Wire) (h : Here) (w : World) → y .silent ≡ true → Fair h → w .host ≡ l → Known (w .card) → SafeCourse w (unmapFa n f (wired b y) h) P
   unfolding unmapFa
   safe-unmap-fa y h w s q e k =
-      course-pick (isHeld (b .held .fa)) _ _ w P
+      course-pick (isHeld (faOf b)) _ _ w P
       (λ t. sent (immOf 0xffe 0 0 0) (stopped n f) y h w s q e k (fits-imm 0xffe 0 0 _ (omega arith) (λ z. z) (omega arith) (omega arith)) (λ z. z) safe-stopped)
       (λ t. safe-stopped y h w s q e k)
 
   safe-unmap-aux : (y : Wire) (h : Here) (w : World) → y .silent ≡ true → Fair h → w .host ≡ l → Known (w .card) → SafeCourse w (unmapAux n f (wired b y) h) P
   unfolding unmapAux
   safe-unmap-aux y h w s q e k =
-      course-pick (isHeld (b .held .aux)) _ _ w P
+      course-pick (isHeld (auxOf b)) _ _ w P
       (λ t. sent (immOf 0xffb 0 0 0) (unmapFa n f) y h w s q e k (fits-imm 0xffb 0 0 _ (omega arith) (λ z. z) (omega arith) (omega arith)) (λ z. z) safe-unmap-fa)
       (λ t. safe-unmap-fa y h w s q e k)
 
-  safe-unmapping : (m : ℕ) → ((k : ℕ) → k < m → icmAt (b .lists .icm) k .virt < 2 ^ 64) → (y : Wire) (h : Here) (w : World) → y .silent ≡ true → Fair h → w .host ≡ l → Known (w .card) → SafeCourse w (unmapping n f m (wired b y) h) P
+  safe-unmapping : (m : ℕ) → ((k : ℕ) → k < m → icmAt (b .lists .slots) k .virt < 2 ^ 64) → (y : Wire) (h : Here) (w : World) → y .silent ≡ true → Fair h → w .host ≡ l → Known (w .card) → SafeCourse w (unmapping n f m (wired b y) h) P
   unfolding unmapping
   safe-unmapping zero a y h w s q e k = safe-unmap-aux y h w s q e k
   safe-unmapping (suc m) a y h w s q e k =
-      sent (immOf 0xff9 0 (icmAt (b .lists .icm) m .pages % 2 ^ 32) (icmAt (b .lists .icm) m .virt)) (unmapping n f m) y h w s q e k
-      (fits-imm 0xff9 (icmAt (b .lists .icm) m .pages % 2 ^ 32) (icmAt (b .lists .icm) m .virt) _ (omega arith) (λ z. z) (let o : icmAt (b .lists .icm) m .pages % 2 ^ 32 < 2 ^ 32 = omega arith in o)
+      sent (immOf 0xff9 0 (icmAt (b .lists .slots) m .pages % 2 ^ 32) (icmAt (b .lists .slots) m .virt)) (unmapping n f m) y h w s q e k
+      (fits-imm 0xff9 (icmAt (b .lists .slots) m .pages % 2 ^ 32) (icmAt (b .lists .slots) m .virt) _ (omega arith) (λ z. z) (let o : icmAt (b .lists .slots) m .pages % 2 ^ 32 < 2 ^ 32 = omega arith in o)
       (a m (let o : m < suc m = omega arith in o))) (λ z. z)
       (safe-unmapping m (λ j less. a j (let o : j < suc m = omega (arith, less) in o)))
 
@@ -95,7 +95,7 @@ module _ (n : Info) (f : Failure) (P : World → Rest → Type 1) (l : Host) (b 
   unfolding closeHca
   safe-close-hca y h w s q e k =
       course-pick (b .started) _ _ w P
-      (λ t. sent (immOf 0x008 0 0 0) (unmapping n f (b .lists .ranges)) y h w s q e k (fits-imm 0x008 0 0 _ (omega arith) (λ z. z) (omega arith) (omega arith)) (λ z. z) (safe-unmapping (b .lists .ranges) (i .addressed)))
+      (λ t. sent (immOf 0x008 0 0 0) (λ d j. unmapping n f (d .lists .ranges) d j) y h w s q e k (fits-imm 0x008 0 0 _ (omega arith) (λ z. z) (omega arith) (omega arith)) (λ z. z) (safe-unmapping (b .lists .ranges) (i .addressed)))
       (λ t. safe-unmapping (b .lists .ranges) (i .addressed) y h w s q e k)
 
   safe-undoing : (m : ℕ) (y : Wire) (h : Here) (w : World) → y .silent ≡ true → Fair h → w .host ≡ l → Known (w .card) → SafeCourse w (undoing n f m (wired b y) h) P

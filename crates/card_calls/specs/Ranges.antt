@@ -12,17 +12,17 @@ use Rattle.dma.specs.declared.Block.{Block}
 use Rattle.reply.specs.Capability.{capabilityOf}
 use Rattle.layout.specs.Counts.{profileOf}
 use Rattle.session.specs.Session.{icmAt}
-use Rattle.session.specs.declared.Icm.{Icm}
+use Rattle.session.specs.declared.Slot.{Slot}
 use Rattle.session.specs.declared.Books.{Books}
 use Rattle.session.specs.declared.Info.{Info}
 use Rattle.opening_plan.specs.Values.{layoutIn, rangeAt}
 
 -- card page x lies on device page d: page j of the range on page j of its buffer
-abbrev pub OnRange : Icm → ℕ → ℕ → Type 0
+abbrev pub OnRange : Slot → ℕ → ℕ → Type 0
 OnRange e x d = (j : ℕ) × (j < e .pages) × (x ≡ e .virt / 4096 + j) × (d ≡ e .dev / 4096 + j)
 
 abbrev pub InRanges : Books → ℕ → ℕ → Type 0
-InRanges b x d = (k : ℕ) × (k < b .lists .ranges) × OnRange (icmAt (b .lists .icm) k) x d
+InRanges b x d = (k : ℕ) × (k < b .lists .ranges) × OnRange (icmAt (b .lists .slots) k) x d
 
 -- the capabilities are those of a reply of bytes
 abbrev pub Capped : Info → Type 0
@@ -35,7 +35,7 @@ Accepted n = Capped n × (profileOf (n .cap) ≡ value (layoutIn n))
 -- the ranges of the books up to i are those of an accepted layout: at its card addresses, with as
 -- many pages as its bytes want
 abbrev pub AsLaid : Info → Books → (i : ℕ) → Type 0
-AsLaid n b i = Accepted n × ((k : ℕ) → k < i → (icmAt (b .lists .icm) k .virt ≡ rangeAt n k .virt) × (pagesFor (rangeAt n k .bytes) ≡ value (icmAt (b .lists .icm) k .pages)))
+AsLaid n b i = Accepted n × ((k : ℕ) → k < i → (icmAt (b .lists .slots) k .virt ≡ rangeAt n k .virt) × (pagesFor (rangeAt n k .bytes) ≡ value (icmAt (b .lists .slots) k .pages)))
 
 -- page i of a block that was cut
 abbrev pub InCut : Block → ℕ → ℕ → Type 0

@@ -2,17 +2,17 @@
 use Prim.Native.Nat.{ℕ, zero, suc, _%_, _^_}
 use native.Mathlib.Omega.{arith}
 use mathlib.Core.Bool.{Bool, true, false}
-use mathlib.Core.List.{List, [], _∷_}
+use mathlib.Core.List.{List, []}
 use mathlib.Core.Path.{_≡_, refl, ap}
 use Rattle.fields.specs.Outcome.{pick}
-use Rattle.dma.specs.declared.Buffer.{Buffer}
 use Rattle.pci.specs.Script.{good, failed}
 use Rattle.pci.specs.declared.Answer.the-variants as an
 use Rattle.pci.specs.declared.Refusal.the-variants as x
 use Rattle.reset.specs.Reset.{save, reset, isGood}
 use Rattle.reset.specs.declared.ResetEnd.the-variants as re
-use Rattle.session.specs.Session.{wired, silent, icmAt, immOf}
-use Rattle.session.specs.Course.{Here, here, neither, sends, Rest}
+use Rattle.buffer.specs.Buffer.{freeing}
+use Rattle.session.specs.Session.{wired, silent, slotAt, icmAt, isHeld, faOf, auxOf, immOf}
+use Rattle.session.specs.Course.{Here, here, neither, slot, run, sends, Rest}
 use Rattle.session.specs.declared.Books.{Books}
 use Rattle.session.specs.declared.Info.{Info}
 use Rattle.session.specs.declared.Gave.the-variants as gv
@@ -21,7 +21,7 @@ use Rattle.session.specs.declared.Failure.{Failure}
 use Rattle.session.specs.declared.Failure.the-variants as f
 use Rattle.session.specs.declared.Closing.{Closing}
 use Rattle.session.specs.declared.Closing.the-variants as c
-use Rattle.closing_plan.specs.Closing.{isHeld, lendsFrom, emptied, UNDOS, restored, parted, freed, giving, resetting, quieted, failing, stopped, onward, unmapFa, unmapAux, unmapping, closeHca, undoing, stopping, quiescing}
+use Rattle.closing_plan.specs.Closing.{UNDOS, restored, parted, freed, giving, resetting, quieted, failing, stopped, onward, unmapFa, unmapAux, unmapping, closeHca, undoing, stopping, quiescing}
 use Rattle.opening_plan.specs.Opening.{onGood, modStat, runFw, enable, opening}
 use Rattle.card.specs.Card.{same, World, store, unmapIn, handBack}
 use Rattle.card_run.specs.Can.{noUndo, CanCourse}
@@ -58,30 +58,37 @@ module _ (n : Info) (f : Failure) where
         ),
       )
 
-  -- all is given back
-  can-freed : (l : List Buffer) (c : Closing) (b : Books) (h : Here) (w : World) → CanCourse w (freed n f l (λ k. parted n f c b k) h) (IsEnded f c)
+  -- all is given back, slot by slot
+  can-freed : (m i : ℕ) (c : Closing) (b : Books) (h : Here) (w : World) → CanCourse w (freed n f m i (λ d k. parted n f c d k) b h) (IsEnded f c)
   unfolding freed
-  can-freed [] c b h w = can-parted c b h w
-  can-freed (y ∷ l) c b h w = (
-    good tt,
-    lends empty,
-    record { card = w .card; host = unmapIn (w .host) (y .handle) },
-    whole,
-    (an.Done, [], refl, tt, no-bytes),
-    (same, refl),
-    (good tt, lends empty, record { card = w .card; host = handBack (unmapIn (w .host) (y .handle)) (y .handle) (y .pages) }, whole, (an.Done, [], refl, tt, no-bytes), (same, refl), can-freed l c b _ _),
-  )
+  can-freed zero i c b h w = can-parted c b h w
+  can-freed (suc m) i c b h w = by (isHeld (slotAt (b .lists .slots) i)) (λ d j v. can-freed m (suc i) c d j v)
+    where
+      by : (t : Bool) → ((d : Books) (j : Here) (v : World) → CanCourse v (freed n f m (suc i) (λ d k. parted n f c d k) d j) (IsEnded f c))
+          → CanCourse w (pick t (run (slot i 0) (freeing (slotAt (b .lists .slots) i .handle) (slotAt (b .lists .slots) i .pages)) (λ u d j. freed n f m (suc i) (λ d k. parted n f c d k) d j) b h)
+          (freed n f m (suc i) (λ d k. parted n f c d k) b h)) (IsEnded f c)
+      by true on =
+          let y = slotAt (b .lists .slots) i in (
+            good tt,
+            lends empty,
+            record { card = w .card; host = unmapIn (w .host) (y .handle) },
+            whole,
+            (an.Done, [], refl, tt, no-bytes),
+            (same, refl),
+            (good tt, lends empty, record { card = w .card; host = handBack (unmapIn (w .host) (y .handle)) (y .handle) (y .pages) }, whole, (an.Done, [], refl, tt, no-bytes), (same, refl), on _ _ _),
+          )
+      by false on = on b h w
 
   can-giving : (c : Closing) (b : Books) (h : Here) (w : World) → CanCourse w (giving n f c b h) (IsEnded f c)
   unfolding giving
-  can-giving c b h w = can-freed (lendsFrom b 0) c (emptied b) h w
+  can-giving c b h w = can-freed 82 0 c b h w
 
   -- THE RESET is good; or its first question fails
   pub can-resetting : (b : Books) (h : Here) (w : World) → CanCourse w (resetting n f b h) (IsEnded f c.Reset)
   unfolding resetting
   can-resetting b h w =
-      can-run (IsEnded f c.Reset) (λ e k. pick (isGood e) (giving n f c.Reset b k) (parted n f c.Kept b k)) (So re.Good (cleared w)) neither reset h w (can-reset w)
-      (λ v y j x. course-true (IsEnded f c.Reset) (isGood y) _ _ v (ap isGood (x .so)) (can-giving c.Reset b j v))
+      can-run (IsEnded f c.Reset) (λ e d k. pick (isGood e) (giving n f c.Reset d k) (parted n f c.Kept d k)) (So re.Good (cleared w)) neither reset b h w (can-reset w)
+      (λ v y l j x. course-true (IsEnded f c.Reset) (isGood y) _ _ v (ap isGood (x .so)) (can-giving c.Reset _ j v))
 
   pub can-keeping : (b : Books) (h : Here) (w : World) → CanCourse w (resetting n f b h) (IsEnded f c.Kept)
   unfolding resetting save
@@ -91,7 +98,7 @@ module _ (n : Info) (f : Failure) where
   module _ (Q : World → Rest → Type 1) (m : Mode) (ends : (b : Books) (h : Here) (w : World) → At m b (w .card) → CanCourse w (stopped n f b h) Q) where
     can-unmap-fa : (b : Books) (h : Here) (w : World) → At m b (w .card) → CanCourse w (unmapFa n f b h) Q
     unfolding unmapFa
-    can-unmap-fa b h w u = by (isHeld (b .held .fa))
+    can-unmap-fa b h w u = by (isHeld (faOf b))
       where
         by : (t : Bool) → CanCourse w (pick t (sends b (immOf 0xffe 0 0 0) (onward n f (stopped n f)) h) (stopped n f b h)) Q
         by true = can-sent Q b (immOf 0xffe 0 0 0) (onward n f (stopped n f)) h w m (omega arith) (omega arith) u (λ us d v e s. ends d _ v e)
@@ -99,7 +106,7 @@ module _ (n : Info) (f : Failure) where
 
     can-unmap-aux : (b : Books) (h : Here) (w : World) → At m b (w .card) → CanCourse w (unmapAux n f b h) Q
     unfolding unmapAux
-    can-unmap-aux b h w u = by (isHeld (b .held .aux))
+    can-unmap-aux b h w u = by (isHeld (auxOf b))
       where
         by : (t : Bool) → CanCourse w (pick t (sends b (immOf 0xffb 0 0 0) (onward n f (unmapFa n f)) h) (unmapFa n f b h)) Q
         by true = can-sent Q b (immOf 0xffb 0 0 0) (onward n f (unmapFa n f)) h w m (omega arith) (omega arith) u (λ us d v e s. can-unmap-fa d _ v e)
@@ -109,15 +116,15 @@ module _ (n : Info) (f : Failure) where
     unfolding unmapping
     can-unmapping zero b h w u = can-unmap-aux b h w u
     can-unmapping (suc i) b h w u =
-        can-sent Q b (immOf 0xff9 0 (icmAt (b .lists .icm) i .pages % 2 ^ 32) (icmAt (b .lists .icm) i .virt)) (onward n f (unmapping n f i)) h w m (omega arith) (omega arith) u (λ us d v e s. can-unmapping i d _ v e)
+        can-sent Q b (immOf 0xff9 0 (icmAt (b .lists .slots) i .pages % 2 ^ 32) (icmAt (b .lists .slots) i .virt)) (onward n f (unmapping n f i)) h w m (omega arith) (omega arith) u (λ us d v e s. can-unmapping i d _ v e)
 
     can-close-hca : (b : Books) (h : Here) (w : World) → At m b (w .card) → CanCourse w (closeHca n f b h) Q
     unfolding closeHca
     can-close-hca b h w u = by (b .started)
       where
-        by : (t : Bool) → CanCourse w (pick t (sends b (immOf 0x008 0 0 0) (onward n f (unmapping n f (b .lists .ranges))) h) (unmapping n f (b .lists .ranges) b h)) Q
+        by : (t : Bool) → CanCourse w (pick t (sends b (immOf 0x008 0 0 0) (onward n f (λ d j. unmapping n f (d .lists .ranges) d j)) h) (unmapping n f (b .lists .ranges) b h)) Q
         by true =
-            can-sent Q b (immOf 0x008 0 0 0) (onward n f (unmapping n f (b .lists .ranges))) h w m (omega arith) (omega arith) u (λ us d v e s. can-unmapping (b .lists .ranges) d _ v e)
+            can-sent Q b (immOf 0x008 0 0 0) (onward n f (λ d j. unmapping n f (d .lists .ranges) d j)) h w m (omega arith) (omega arith) u (λ us d v e s. can-unmapping (d .lists .ranges) d _ v e)
         by false = can-unmapping (b .lists .ranges) b h w u
 
     can-tearing : (k : ℕ) (b : Books) (i o : List ℕ) (w : World) → At m b (w .card) → CanCourse w (undoing n f k b (here i o noUndo)) Q
@@ -146,7 +153,7 @@ module _ (n : Info) (f : Failure) where
     unfolding closeHca failing
     fail-close l b h w u =
         course-true Q (b .started) _ _ w (u .started)
-        (can-fail Q b (immOf 0x008 0 0 0) (onward n f (unmapping n f (b .lists .ranges))) h w (course-false Q (b .wire .silent) _ _ w (u .silent) (ends _ _ w)))
+        (can-fail Q b (immOf 0x008 0 0 0) (onward n f (λ d j. unmapping n f (d .lists .ranges) d j)) h w (course-false Q (b .wire .silent) _ _ w (u .silent) (ends _ _ w)))
 
     no-undo : (l k : ℕ) (b : Books) (i o : List ℕ) (w : World) → At (going l) b (w .card) → CanCourse w (undoing n f k b (here i o noUndo)) Q
     unfolding undoing

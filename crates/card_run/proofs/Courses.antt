@@ -3,21 +3,22 @@ use Prim.Native.Nat.{ℕ, zero, suc, _^_, _≤_, _<_}
 use native.Mathlib.Omega.{arith}
 use mathlib.Core.Bool.{Bool, true, false, not, false≢true}
 use mathlib.Core.List.{List, []}
-use mathlib.Core.Path.{_≡_, refl, sym, ap, subst}
+use mathlib.Core.Path.{_≡_, refl, sym, _∙_, ap, subst}
 use lib.Dec.{leb}
 use lib.ListN.{length, replicate, length-replicate}
 use Rattle.fields.specs.Outcome.{pick}
 use Rattle.fields.proofs.Laws.{Bytes}
 use Rattle.hcr.specs.declared.Post.{Post}
-use Rattle.pci.specs.Script.{Script, failed}
+use Rattle.pci.specs.Script.{Script, Ask, Reply, failed}
 use Rattle.pci.specs.Script as s
 use Rattle.pci.specs.declared.Answer.the-variants as an
 use Rattle.command.specs.Script.{ending, command}
 use Rattle.command.specs.declared.CmdResult.{CmdResult}
 use Rattle.command.specs.declared.CmdResult.the-variants as r
-use Rattle.session.specs.Session.{wired, after, endSeen, catasFor}
-use Rattle.session.specs.Course.{Course, ret, ask, Here, here, Lent, lent, Box, neither, touched, run, task, sends, Rest}
+use Rattle.session.specs.Session.{wired, listing, after, endSeen, catasFor, INBOX, OUTBOX}
+use Rattle.session.specs.Course.{Course, ret, ask, Here, here, Lent, lent, Place, neither, inbox, outbox, slot, touched, booksBy, booked, run, task, sends, Rest}
 use Rattle.session.specs.declared.Top.{Top}
+use Rattle.session.specs.declared.Slot.{Slot}
 use Rattle.session.specs.declared.Wire.{Wire}
 use Rattle.session.specs.declared.Books.{Books}
 use Rattle.session.specs.declared.Gave.{Gave}
@@ -26,6 +27,7 @@ use Rattle.session.specs.declared.Failure.{Failure}
 use Rattle.session.specs.declared.Closing.{Closing}
 use Rattle.card.specs.Card.{Card, same, Host, World}
 use Rattle.card_calls.specs.SafeCourse.{Typed}
+use Rattle.card_calls.proofs.Slots.{Ends}
 use Rattle.card_calls.proofs.Courses.{untouched}
 use Rattle.card_run.specs.Can.{Can, noUndo, Whole, CanCourse}
 use Rattle.card_run.proofs.Steps.{no-bytes}
@@ -94,10 +96,10 @@ pub record Spare (k : Host) : Type 0 where
   pub few : page ≤ 2 ^ 51
   pub room : Room at page k
 
--- THE ENDS that are meant. The session is open, and this is what its last call gave
-pub record IsOpen (P : Gave → Type 0) (l : ℕ) (w : World) (x : Rest) : Type 1 where
+-- THE ENDS that are meant. The session is open, and this is what its last call gave, by the books
+pub record IsOpen (P : Books → Gave → Type 0) (l : ℕ) (w : World) (x : Rest) : Type 1 where
   pub gave : Gave
-  pub so : P gave
+  pub so : P (x .books) gave
   pub stage : x .stage ≡ g.Open gave
   pub up : At (going l) (x .books) (w .card)
 
@@ -111,6 +113,43 @@ abbrev IsAsk : {A : Type 0} → Script A → Type 0
 IsAsk (s.ret x) = ⊥
 IsAsk (s.ask q k) = Unit {0}
 
+-- THE BOOKS with these slots, which are all that a reply changes
+abbrev pub slotted : Books → List Slot → Books
+slotted b l = listing b (record { slots = l; ranges = b .lists .ranges; lends = b .lists .lends })
+
+by-slots : (i v : ℕ) (q : Ask) (r : Reply q) (b : Books) → booksBy i v q r b ≡ slotted b (booksBy i v q r b .lists .slots)
+by-slots i v (s.configRead16 o) r b = refl
+by-slots i v (s.configRead32 o) r b = refl
+by-slots i v (s.configWrite16 o y) r b = refl
+by-slots i v (s.configWrite32 o y) r b = refl
+by-slots i v (s.read k o) r b = refl
+by-slots i v (s.write k o y) r b = refl
+by-slots i v (s.attributes o y) r b = refl
+by-slots i v (s.resource k) r b = refl
+by-slots i v (s.stall y) r b = refl
+by-slots i v (s.allocate n) (s.good k) b = refl
+by-slots i v (s.allocate n) s.failed b = refl
+by-slots i v (s.mapped k n) (s.good x) b = refl
+by-slots i v (s.mapped k n) s.failed b = refl
+by-slots i v (s.unmap k) r b = refl
+by-slots i v (s.free k n) r b = refl
+by-slots i v (s.fence k) r b = refl
+
+booked-slots : (p : Place) (q : Ask) (r : Reply q) (b : Books) → booked p q r b ≡ slotted b (booked p q r b .lists .slots)
+booked-slots neither q r b = refl
+booked-slots inbox q r b = by-slots INBOX 0 q r b
+booked-slots outbox q r b = by-slots OUTBOX 0 q r b
+booked-slots (slot i v) q r b = by-slots i v q r b
+
+OtherSlots : {A : Type 0} → Books → A → Books → Type 0
+OtherSlots b x d = (l : List Slot) × (d ≡ slotted b l)
+
+ends-slots : {A : Type 0} (p : Place) (t : Script A) (b d : Books) (l : List Slot) → d ≡ slotted b l → Ends p t d (OtherSlots b)
+unfolding OtherSlots
+ends-slots p (s.ret x) b d l e = (l, e)
+ends-slots p (s.ask q g) b d l e = λ r.
+    ends-slots p (g r) b (booked p q r d) (booked p q r d .lists .slots) (booked-slots p q r d ∙ ap (λ (z : Books). slotted z (booked p q r d .lists .slots)) e)
+
 module _ (Q : World → Rest → Type 1) where
   pub course-true : (b : Bool) (x y : Course Rest) (w : World) → b ≡ true → CanCourse w x Q → CanCourse w (pick b x y) Q
   course-true true x y w e k = k
@@ -121,25 +160,33 @@ module _ (Q : World → Rest → Type 1) where
   course-false false x y w e k = k
 
   -- A TASK
-  module _ {A : Type 0} (K : A → Here → Course Rest) (M : World → A → Type 1) where
-    pub can-run : (b : Box) (t : Script A) (h : Here) (w : World) → Can w t M → ((v : World) (x : A) (j : Here) → M v x → CanCourse v (K x j) Q) → CanCourse w (run b t K h) Q
-    can-run b (s.ret x) h w y k = k w x h y
-    can-run b (s.ask q d) h w (r, v, an, st, y) k = (r, lends empty, v, whole, an, st, can-run b (d r) (touched b q r (lent h (lends empty))) v y k)
+  module _ {A : Type 0} (K : A → Books → Here → Course Rest) (M : World → A → Type 1) where
+    -- with what it leaves of the books
+    pub can-ends : (p : Place) (t : Script A) (b : Books) (E : A → Books → Type 0) (h : Here) (w : World) → Can w t M → Ends p t b E
+        → ((v : World) (x : A) (d : Books) (j : Here) → M v x → E x d → CanCourse v (K x d j) Q) → CanCourse w (run p t K b h) Q
+    can-ends p (s.ret x) b E h w y e k = k w x b h y e
+    can-ends p (s.ask q d) b E h w (r, v, an, st, y) e k = (r, lends empty, v, whole, an, st, can-ends p (d r) (booked p q r b) E (touched p q r (lent h (lends empty))) v y (e r) k)
+
+    pub can-run : (p : Place) (t : Script A) (b : Books) (h : Here) (w : World) → Can w t M → ((v : World) (x : A) (l : List Slot) (j : Here) → M v x → CanCourse v (K x (slotted b l) j) Q)
+        → CanCourse w (run p t K b h) Q
+    unfolding OtherSlots
+    can-run p t b h w y k =
+        can-ends p t b (OtherSlots b) h w y (ends-slots p t b b (b .lists .slots) refl) (λ v x d j m e. subst (λ (z : Books). CanCourse v (K x z j) Q) (sym (e .1)) (k v x (e .0) j m))
 
     -- with this outbox lent at every reply
-    module _ (out : List ℕ) (ok : Bytes out) (l : length out ≡ 4096) where
+    module _ (out : List ℕ) (ok : Bytes out) (l : length out ≡ 4096) (b : Books) where
       full : Whole (lends out)
       full = lendable out ok l noUndo top-typed refl (omega arith) (λ e. refl)
 
-      on : (t : Script A) (i : List ℕ) (w : World) → Can w t M → ((v : World) (x : A) → M v x → CanCourse v (K x (here i out noUndo)) Q) → CanCourse w (run neither t K (here i out noUndo)) Q
+      on : (t : Script A) (i : List ℕ) (w : World) → Can w t M → ((v : World) (x : A) → M v x → CanCourse v (K x b (here i out noUndo)) Q) → CanCourse w (run neither t K b (here i out noUndo)) Q
       on (s.ret x) i w y k = k w x y
       on (s.ask q d) i w (r, v, an, st, y) k =
-          (r, lends out, v, full, an, st, subst (λ (j : Here). CanCourse v (run neither (d r) K j) Q) (sym (untouched q r (here i out noUndo))) (on (d r) i v y k))
+          (r, lends out, v, full, an, st, subst (λ (j : Here). CanCourse v (run neither (d r) K b j) Q) (sym (untouched q r (here i out noUndo))) (on (d r) i v y k))
 
-      pub can-task : (t : Script A) → IsAsk t → (h : Here) (w : World) → Can w t M → ((v : World) (x : A) → M v x → CanCourse v (K x (here (h .inbox) out noUndo)) Q) → CanCourse w (task t K h) Q
+      pub can-task : (t : Script A) → IsAsk t → (h : Here) (w : World) → Can w t M → ((v : World) (x : A) → M v x → CanCourse v (K x b (here (h .inbox) out noUndo)) Q) → CanCourse w (task t K b h) Q
       can-task (s.ret x) e h w y k = absurd e
       can-task (s.ask q d) e h w (r, v, an, st, y) k =
-          (r, lends out, v, full, an, st, subst (λ (j : Here). CanCourse v (run neither (d r) K j) Q) (sym (untouched q r (lent h (lends out)))) (on (d r) (h .inbox) v y k))
+          (r, lends out, v, full, an, st, subst (λ (j : Here). CanCourse v (run neither (d r) K b j) Q) (sym (untouched q r (lent h (lends out)))) (on (d r) (h .inbox) v y k))
 
   -- A COMMAND: it ends well, with this outbox
   module _ (b : Books) (p : Post) (K : CmdResult → Books → Here → Course Rest) (h : Here) (w : World) where
@@ -148,7 +195,7 @@ module _ (Q : World → Rest → Type 1) where
         → CanCourse w (sends b p K h) Q
     unfolding command
     can-sends m out ok n o q u k =
-        can-task (λ e j. K (e .result) (wired b (after (b .wire) e)) j) (Well 0 (b .wire .toggle) (w .host)) out ok n (command (catasFor (b .wire)) (h .inbox) (b .wire .toggle) p) tt h w
+        can-task (λ e d j. K (e .result) (wired d (after (d .wire) e)) j) (Well 0 (b .wire .toggle) (w .host)) out ok n b (command (catasFor (b .wire)) (h .inbox) (b .wire .toggle) p) tt h w
         (can-command (catasFor (b .wire)) (h .inbox) (b .wire .toggle) p (w .host) 0 (omega arith) w o q refl (u .idle))
         (λ v e x.
         subst (λ (y : CmdResult). CanCourse v (K y (wired b (after (b .wire) e)) (here (h .inbox) out noUndo)) Q) (sym (x .result))

@@ -16,7 +16,6 @@ use Rattle.bars.specs.declared.Size.the-variants as z
 use Rattle.bench.specs.Bench.{inputL}
 use Rattle.dma.specs.Buffers.{pagesFor}
 use Rattle.dma.specs.PageList.{firstBlocks, behind, filledAt}
-use Rattle.dma.specs.declared.Buffer.{Buffer}
 use Rattle.dma.specs.declared.Cutter.{Cutter}
 use Rattle.hcr.specs.Words.{firstToggle}
 use Rattle.reply.specs.Capability.{capabilityOf, devCapOf, readInto}
@@ -46,18 +45,17 @@ use Rattle.session.specs.Session.{noBooks, noInfo, immOf, withInOf, withOutOf}
 use Rattle.session.specs.Course.{Course, Here, here, neither, inbox, outbox, zeroed, sends, Rest}
 use Rattle.session.specs.declared.Lists.{Lists}
 use Rattle.session.specs.declared.Wire.{Wire}
-use Rattle.session.specs.declared.Icm.{Icm}
 use Rattle.session.specs.declared.Gave.{Gave}
 use Rattle.session.specs.declared.Gave.the-variants as gv
 use Rattle.closing_plan.specs.Closing.{isDone, parted}
-use Rattle.opening_plan.specs.Values.{fwFailureOf, layoutIn, rangeAt, withToggle, withCatas, withInbox, withOutbox, withOriginal, nowStarted, opFor, enters, cutterFor, withUar, withRevision, withCap}
+use Rattle.opening_plan.specs.Values.{fwFailureOf, layoutIn, rangeAt, withToggle, withCatas, withOriginal, nowStarted, opFor, placeFor, enters, cutIn, withUar, withRevision, withCap}
 use Rattle.opening_plan.specs.Opening.{fails, failsBy, onGood, onValue, holds, onMade, opened, queryAdapter, queryFunc, initHca, mapping, areaFor, mapIcm, setIcmSize, layingOut, queryPorts, portsOf, queryDevCap, modStat, runFw, fwReply, queryFw, look, giveInbox, makeOutbox, makeInbox, onFound, findUar, firstReset, onClaimed, claim, onEnabled, enable, opening}
 use Rattle.card.specs.Card.{Card, holds as holding, No, Host, World}
 use Rattle.card_calls.proofs.Areas.{pages-few}
 use Rattle.card_calls.proofs.Opening.{Laid, capped-laid}
 use Rattle.card_run.specs.Can.{noUndo, CanCourse}
 use Rattle.card_run.proofs.Tasks.{So, Barless, Room, Grew, cleared, can-attributing, can-claiming, can-reset, can-finding, can-looking, can-making}
-use Rattle.card_run.proofs.Courses.{rising, going, At, Spare, IsOpen, course-true, can-run, can-sends, can-sent}
+use Rattle.card_run.proofs.Courses.{rising, going, At, Spare, IsOpen, slotted, course-true, can-run, can-sends, can-sent}
 
 -- REPLIES: bytes
 below : List ℕ → Bool
@@ -83,15 +81,15 @@ op-small a.Fa = let h : 0xfff < 0x1000 = omega arith in h
 op-small a.Aux = let h : 0xffc < 0x1000 = omega arith in h
 op-small (a.Range i) = let h : 0xffa < 0x1000 = omega arith in h
 
-more-lends : (t : Bool) (l : Lists) (e : List Icm) (n : ℕ) → pick t (record { icm = e; ranges = n; lent = l .lent; lends = l .lends }) l .lends ≡ l .lends
-more-lends true l e n = refl
-more-lends false l e n = refl
+more-lends : (t : Bool) (l : Lists) (n : ℕ) → pick t (record { slots = l .slots; ranges = n; lends = l .lends }) l .lends ≡ l .lends
+more-lends true l n = refl
+more-lends false l n = refl
 
-entered : (n : Info) (e : Area) (z : Buffer) (b : Books) (k : Card) → At rising b k → At rising (enters n e z b) k
-entered n a.Fa z b k u = u
-entered n a.Aux z b k u = u
-entered n (a.Range i) z b k u =
-    record { idle = u .idle; running = u .running; broken = u .broken; silent = u .silent; lends = more-lends (ltb (b .lists .ranges) 14) (b .lists) _ _ ∙ u .lends; started = u .started }
+entered : (e : Area) (b : Books) (k : Card) → At rising b k → At rising (enters e b) k
+entered a.Fa b k u = u
+entered a.Aux b k u = u
+entered (a.Range i) b k u =
+    record { idle = u .idle; running = u .running; broken = u .broken; silent = u .silent; lends = more-lends (ltb (b .lists .ranges) 14) (b .lists) _ ∙ u .lends; started = u .started }
 
 module _ (Q : World → Rest → Type 1) where
   module _ (e : Area) (next : Books → Here → Course Rest) (n : Info) (l : Host) (follows : (d : Books) (j : Here) (v : World) → At rising d (v .card) → v .host ≡ l → CanCourse v (next d j) Q) where
@@ -102,11 +100,11 @@ module _ (Q : World → Rest → Type 1) where
       where
         by-left : ((d : Books) (j : Here) (v : World) → v .host ≡ l → At rising d (v .card) → CanCourse v (mapping e next k (behind 63 256 x) n d j) Q) → (t : Bool)
             → CanCourse w (pick t (next b h)
-            (sends b (withInOf (b .held) (opFor e) (length (firstBlocks 63 256 x) % 2 ^ 32)) (λ y d j. onGood y (λ z i. mapping e next k (behind 63 256 x) n z i) n d j)
+            (sends b (withInOf b (opFor e) (length (firstBlocks 63 256 x) % 2 ^ 32)) (λ y d j. onGood y (λ z i. mapping e next k (behind 63 256 x) n z i) n d j)
             (holds (filledAt 63 256 x (h .inbox)) h))) Q
         by-left on true = follows b h w i q
         by-left on false =
-            can-sent Q b (withInOf (b .held) (opFor e) (length (firstBlocks 63 256 x) % 2 ^ 32)) (λ y d j. onGood y (λ z i. mapping e next k (behind 63 256 x) n z i) n d j)
+            can-sent Q b (withInOf b (opFor e) (length (firstBlocks 63 256 x) % 2 ^ 32)) (λ y d j. onGood y (λ z i. mapping e next k (behind 63 256 x) n z i) n d j)
             (holds (filledAt 63 256 x (h .inbox)) h) w rising (op-small e) (omega arith) i (λ us d v j s. on d _ v (s ∙ q) j)
 
   can-area : (e : Area) (bytes pages at page : ℕ) (next : Books → Here → Course Rest) (n : Info) (b : Books) (h : Here) (w : World) → pagesFor bytes ≡ value pages → page + pages ≤ 2 ^ 52
@@ -115,21 +113,20 @@ module _ (Q : World → Rest → Type 1) where
       → CanCourse w (areaFor e bytes next n b h) Q
   unfolding areaFor
   can-area e bytes pages at page next n b h w q fits room i follows =
-      can-run Q (λ y j. onMade y (λ z. mapping e next (cutterFor n e z .left) (cutterFor n e z) n (enters n e z b) j) (λ x. fails (faultOf x) n b j)) (Grew pages at page w) neither (making bytes) h w
+      can-run Q (λ y d j. onMade y (λ z. mapping e next (cutIn n e d .left) (cutIn n e d) n (enters e d) j) (λ x. fails (faultOf x) n d j)) (Grew pages at page w) (placeFor n e) (making bytes) b h w
       (can-making bytes pages at page q fits w room)
-      (λ v y j x.
-      subst (λ (d : Made). CanCourse v (onMade d (λ z. mapping e next (cutterFor n e z .left) (cutterFor n e z) n (enters n e z b) j) (λ x. fails (faultOf x) n b j)) Q) (sym (x .made))
-      (can-mapping e next n (v .host) (λ d k u o s. follows d k u o (subst (Room (suc at) (page + pages)) (sym s) (x .room)))
-      (cutterFor n e (record { handle = at; dev = page * 4096; pages = pages }) .left) (cutterFor n e (record { handle = at; dev = page * 4096; pages = pages }))
-      (enters n e (record { handle = at; dev = page * 4096; pages = pages }) b) j v refl
-      (entered n e (record { handle = at; dev = page * 4096; pages = pages }) b (v .card) (subst (At rising b) (sym (x .card)) i))))
+      (λ v y l j x.
+      let d = slotted b l in
+      subst (λ (m : Made). CanCourse v (onMade m (λ z. mapping e next (cutIn n e d .left) (cutIn n e d) n (enters e d) j) (λ x. fails (faultOf x) n d j)) Q) (sym (x .made))
+      (can-mapping e next n (v .host) (λ d k u o s. follows d k u o (subst (Room (suc at) (page + pages)) (sym s) (x .room))) (cutIn n e d .left) (cutIn n e d) (enters e d) j v refl
+      (entered e d (v .card) (subst (At rising b) (sym (x .card)) i))))
 
   value-is : {A : Type 0} (x : Outcome A) (y : A) (k : A → Course Rest) (n : Info) (b : Books) (h : Here) (w : World) → x ≡ value y → CanCourse w (k y) Q → CanCourse w (onValue x k n b h) Q
   value-is x y k n b h w e c = subst (λ (z : Outcome _). CanCourse w (onValue z k n b h) Q) (sym e) c
 
 -- BRING-UP that ends well, from its end: the session is open, none of its buffers is lent, and the host has room
-abbrev pub IsNothing : Gave → Type 0
-IsNothing y = y ≡ gv.Nothing
+abbrev pub IsNothing : Books → Gave → Type 0
+IsNothing b y = y ≡ gv.Nothing
 
 pub record Ready (w : World) (x : Rest) : Type 1 where
   pub isOpen : IsOpen IsNothing 0 w x
@@ -138,7 +135,7 @@ pub record Ready (w : World) (x : Rest) : Type 1 where
 can-adapter : (n : Info) (b : Books) (h : Here) (w : World) → Spare (w .host) → At (going 0) b (w .card) → CanCourse w (queryAdapter n b h) Ready
 unfolding queryAdapter
 can-adapter n b h w k u =
-    can-sent Ready b (withOutOf (b .held) 0x006 0) (λ x d j. opened n d j) (zeroed outbox h) w (going 0) (omega arith) (omega arith) u
+    can-sent Ready b (withOutOf b 0x006 0) (λ x d j. opened n d j) (zeroed outbox h) w (going 0) (omega arith) (omega arith) u
     (λ us d v e s. record { isOpen = record { gave = gv.Nothing; so = refl; stage = refl; up = e }; spare = subst Spare (sym s) k })
 
 can-func : (n : Info) (b : Books) (h : Here) (w : World) → n .cap .«num_sys_eqs» ≡ 0 → Spare (w .host) → At (going 0) b (w .card) → CanCourse w (queryFunc n b h) Ready
@@ -152,7 +149,7 @@ begun b k u = record { idle = u .idle; running = u .running; broken = u .broken;
 can-init : (n : Info) (b : Books) (h : Here) (w : World) → n .cap .«num_sys_eqs» ≡ 0 → Spare (w .host) → At rising b (w .card) → CanCourse w (initHca n b h) Ready
 unfolding initHca
 can-init n b h w e k u =
-    can-sent Ready b (withInOf (b .held) 0x007 0) (λ x d j. onGood x (λ q k. queryFunc n (nowStarted q) k) n d j)
+    can-sent Ready b (withInOf b 0x007 0) (λ x d j. onGood x (λ q k. queryFunc n (nowStarted q) k) n d j)
     (holds (filledBy (h .inbox) (fieldsOf (initOf (n .cap) (layoutIn n .rows)))) h) w rising (omega arith) (omega arith) u (λ us d v i s. can-func n (nowStarted d) _ v e (subst Spare (sym s) k) (begun d (v .card) i))
 
 -- as many pages as a range wants
@@ -218,7 +215,7 @@ can-cap : (at page : ℕ) (n : Info) (b : Books) (h : Here) (w : World) → n .u
     → CanCourse w (queryDevCap n b h) Ready
 unfolding queryDevCap queryPorts
 can-cap at page n b h w u v fits room o =
-    can-sends Ready b (withOutOf (b .held) 0x003 0)
+    can-sends Ready b (withOutOf b 0x003 0)
     (λ x d j. onGood x (λ e i. onValue (capabilityOf (i .outbox) (n .uar .size)) (λ y. queryPorts (portsOf (withCap n y)) 1 (withCap n y) e i) n e i) n d j) (zeroed outbox h) w rising capReply cap-bytes cap-length (omega arith) (omega arith) o
     (λ us d x i s. value-is Ready (capabilityOf capReply (n .uar .size)) capL (λ y. queryPorts (portsOf (withCap n y)) 1 (withCap n y) d (here (zeroed outbox h .inbox) capReply noUndo)) n d (here (zeroed outbox h .inbox) capReply noUndo) x
     (ap (capabilityOf capReply) u ∙ cap-accepted)
@@ -229,7 +226,7 @@ can-stat : (at page : ℕ) (n : Info) (b : Books) (h : Here) (w : World) → n .
     → CanCourse w (modStat n b h) Ready
 unfolding modStat
 can-stat at page n b h w u v fits room o =
-    can-sent Ready b (withInOf (b .held) 0x034 0) (λ x d j. pick (needsReset x) (failsBy x n d j) (queryDevCap n d j)) (holds (filledBy (h .inbox) modStatCfg) h) w rising (omega arith) (omega arith) o
+    can-sent Ready b (withInOf b 0x034 0) (λ x d j. pick (needsReset x) (failsBy x n d j) (queryDevCap n d j)) (holds (filledBy (h .inbox) modStatCfg) h) w rising (omega arith) (omega arith) o
     (λ us d x i s. can-cap at page n d _ x u v fits (subst (Room at page) (sym s) room) i)
 
 -- THE FIRMWARE AREA IS MAPPED, with all that this asked for
@@ -279,7 +276,7 @@ module _ (Q : World → Rest → Type 1) (follows : (n : Info) (b : Books) (h : 
   can-query-fw : (n : Info) (b : Books) (h : Here) (w : World) → n .uar .size ≡ z.Unknown → Room 2 2 (w .host) → At rising b (w .card) → CanCourse w (queryFw n b h) Q
   unfolding queryFw digits
   can-query-fw n b h w u room o =
-      can-sends Q b (withOutOf (b .held) 0x004 0) (λ x d j. pick (isDone x) (fwReply n d j) (fails (fwFailureOf x) n (brokenBy x d) j)) (zeroed outbox h) w rising fwBytes fw-bytes fw-length (omega arith) (omega arith) o
+      can-sends Q b (withOutOf b 0x004 0) (λ x d j. pick (isDone x) (fwReply n d j) (fails (fwFailureOf x) n (brokenBy x d) j)) (zeroed outbox h) w rising fwBytes fw-bytes fw-length (omega arith) (omega arith) o
       (λ us d x i s. value-is Q (queryFwOf fwBytes (n .uar .index)) (fwOf fwBytes (n .uar .index))
       (λ y. areaFor a.Fa (y .pages * 4096) (runFw (withRevision n (y .rev))) (withRevision n (y .rev)) (withCatas d (fwHeld fwBytes (n .uar .index))) (here (zeroed outbox h .inbox) fwBytes noUndo)) n
       (withCatas d (fwHeld fwBytes (n .uar .index))) (here (zeroed outbox h .inbox) fwBytes noUndo) x (fw-accepted (n .uar .index))
@@ -290,8 +287,8 @@ module _ (Q : World → Rest → Type 1) (follows : (n : Info) (b : Books) (h : 
   can-look : (n : Info) (b : Books) (h : Here) (w : World) → n .uar .size ≡ z.Unknown → Before 2 (b .wire) (b .lists .lends) (b .started) w → CanCourse w (look n b h) Q
   unfolding look
   can-look n b h w u o =
-      can-run Q (λ t j. queryFw n (withToggle b t) j) (So (firstToggle 0) w) neither looking h w (can-looking w (o .new .pending) (o .new .last))
-      (λ v t j x. can-query-fw n (withToggle b t) j v u (subst (λ (y : World). Room 2 2 (y .host)) (sym (x .world)) (o .room))
+      can-run Q (λ t d j. queryFw n (withToggle d t) j) (So (firstToggle 0) w) neither looking b h w (can-looking w (o .new .pending) (o .new .last))
+      (λ v t l j x. can-query-fw n (withToggle (slotted b l) t) j v u (subst (λ (y : World). Room 2 2 (y .host)) (sym (x .world)) (o .room))
       (subst (λ (y : World). At rising (withToggle b t) (y .card)) (sym (x .world)) (record {
         idle = record { pending = o .new .pending; status = o .new .status; last = inl (o .new .last) };
         running = o .new .running;
@@ -304,29 +301,29 @@ module _ (Q : World → Rest → Type 1) (follows : (n : Info) (b : Books) (h : 
   can-outbox : (n : Info) (b : Books) (h : Here) (w : World) → n .uar .size ≡ z.Unknown → Before 1 (b .wire) (b .lists .lends) (b .started) w → CanCourse w (makeOutbox n b h) Q
   unfolding makeOutbox
   can-outbox n b h w u o =
-      can-run Q (λ y j. onMade y (λ x. look n (withOutbox b x) j) (λ e. giveInbox e n b j)) (Grew 1 1 1 w) outbox (making 4096) h w (can-making 4096 1 1 1 refl (omega arith) w (o .room))
-      (λ v y j x. subst (λ (d : Made). CanCourse v (onMade d (λ x. look n (withOutbox b x) j) (λ e. giveInbox e n b j)) Q) (sym (x .made))
-      (can-look n (withOutbox b (record { handle = 1; dev = 1 * 4096; pages = 1 })) j v u (record { room = x .room; new = subst (New (b .wire) (b .lists .lends) (b .started)) (sym (x .card)) (o .new) })))
+      can-run Q (λ y d j. onMade y (λ x. look n d j) (λ e. giveInbox e n d j)) (Grew 1 1 1 w) outbox (making 4096) b h w (can-making 4096 1 1 1 refl (omega arith) w (o .room))
+      (λ v y l j x. subst (λ (m : Made). CanCourse v (onMade m (λ x. look n (slotted b l) j) (λ e. giveInbox e n (slotted b l) j)) Q) (sym (x .made))
+      (can-look n (slotted b l) j v u (record { room = x .room; new = subst (New (b .wire) (b .lists .lends) (b .started)) (sym (x .card)) (o .new) })))
 
   can-inbox : (n : Info) (b : Books) (h : Here) (w : World) → n .uar .size ≡ z.Unknown → Before 0 (b .wire) (b .lists .lends) (b .started) w → CanCourse w (makeInbox n b h) Q
   unfolding makeInbox
   can-inbox n b h w u o =
-      can-run Q (λ y j. onMade y (λ x. makeOutbox n (withInbox b x) j) (λ e. parted n (f.By (faultOf e)) c.Clean b j)) (Grew 1 0 0 w) inbox (making 4096) h w (can-making 4096 1 0 0 refl (omega arith) w (o .room))
-      (λ v y j x. subst (λ (d : Made). CanCourse v (onMade d (λ x. makeOutbox n (withInbox b x) j) (λ e. parted n (f.By (faultOf e)) c.Clean b j)) Q) (sym (x .made))
-      (can-outbox n (withInbox b (record { handle = 0; dev = 0 * 4096; pages = 1 })) j v u (record { room = x .room; new = subst (New (b .wire) (b .lists .lends) (b .started)) (sym (x .card)) (o .new) })))
+      can-run Q (λ y d j. onMade y (λ x. makeOutbox n d j) (λ e. parted n (f.By (faultOf e)) c.Clean d j)) (Grew 1 0 0 w) inbox (making 4096) b h w (can-making 4096 1 0 0 refl (omega arith) w (o .room))
+      (λ v y l j x. subst (λ (m : Made). CanCourse v (onMade m (λ x. makeOutbox n (slotted b l) j) (λ e. parted n (f.By (faultOf e)) c.Clean (slotted b l) j)) Q) (sym (x .made))
+      (can-outbox n (slotted b l) j v u (record { room = x .room; new = subst (New (b .wire) (b .lists .lends) (b .started)) (sym (x .card)) (o .new) })))
 
   can-find : (n : Info) (b : Books) (h : Here) (w : World) → Before 0 (b .wire) (b .lists .lends) (b .started) w → CanCourse w (findUar n b h) Q
   unfolding findUar
   can-find n b h w o =
-      can-run Q (λ y j. onFound y n b j) (Barless w) neither finding h w (can-finding w)
-      (λ v y j x. subst (λ (d : _). CanCourse v (onFound d n b j) Q) (sym (x .so)) (can-inbox (withUar n (x .bar)) b j v (x .size) (subst (Before 0 (b .wire) (b .lists .lends) (b .started)) (sym (x .world)) o)))
+      can-run Q (λ y d j. onFound y n d j) (Barless w) neither finding b h w (can-finding w)
+      (λ v y l j x. subst (λ (m : _). CanCourse v (onFound m n (slotted b l) j) Q) (sym (x .so)) (can-inbox (withUar n (x .bar)) (slotted b l) j v (x .size) (subst (Before 0 (b .wire) (b .lists .lends) (b .started)) (sym (x .world)) o)))
 
   can-first : (n : Info) (b : Books) (h : Here) (w : World) → Before 0 (b .wire) (b .lists .lends) (b .started) w → CanCourse w (firstReset n b h) Q
   unfolding firstReset
   can-first n b h w o =
-      can-run Q (λ y j. pick (isGood y) (findUar n b j) (parted n _ c.Clean b j)) (So re.Good (cleared w)) neither reset h w (can-reset w)
-      (λ v y j x. course-true Q (isGood y) _ _ v (ap isGood (x .so))
-      (can-find n b j v (subst (Before 0 (b .wire) (b .lists .lends) (b .started)) (sym (x .world)) (record {
+      can-run Q (λ y d j. pick (isGood y) (findUar n d j) (parted n _ c.Clean d j)) (So re.Good (cleared w)) neither reset b h w (can-reset w)
+      (λ v y l j x. course-true Q (isGood y) _ _ v (ap isGood (x .so))
+      (can-find n (slotted b l) j v (subst (Before 0 (b .wire) (b .lists .lends) (b .started)) (sym (x .world)) (record {
         room = o .room;
         new = record { pending = refl; last = refl; status = o .new .status; running = o .new .running; broken = o .new .broken; silent = o .new .silent; lends = o .new .lends; started = o .new .started };
       }))))
@@ -334,8 +331,8 @@ module _ (Q : World → Rest → Type 1) (follows : (n : Info) (b : Books) (h : 
   can-claim : (n : Info) (b : Books) (h : Here) (w : World) → Before 0 (b .wire) (b .lists .lends) (b .started) w → CanCourse w (claim n b h) Q
   unfolding claim
   can-claim n b h w o =
-      can-run Q (λ y j. onClaimed y n b j) (So l.Good w) neither claiming h w (can-claiming w)
-      (λ v y j x. subst (λ (d : _). CanCourse v (onClaimed d n b j) Q) (sym (x .so)) (can-first n b j v (subst (Before 0 (b .wire) (b .lists .lends) (b .started)) (sym (x .world)) o)))
+      can-run Q (λ y d j. onClaimed y n d j) (So l.Good w) neither claiming b h w (can-claiming w)
+      (λ v y i j x. subst (λ (m : _). CanCourse v (onClaimed m n (slotted b i) j) Q) (sym (x .so)) (can-first n (slotted b i) j v (subst (Before 0 (b .wire) (b .lists .lends) (b .started)) (sym (x .world)) o)))
 
 -- A CARD that holds nothing and a HOST that has handed out nothing
 abbrev pub card₀ : Card
@@ -364,9 +361,9 @@ start = record {
 pub opening-maps : (Q : World → Rest → Type 1) → ((n : Info) (b : Books) (h : Here) (w : World) → HasFa n b w → CanCourse w (runFw n b h) Q) → (h : Here) → CanCourse world₀ (opening h) Q
 unfolding enable
 opening-maps Q follows h =
-    can-run Q (λ y j. onEnabled y noInfo noBooks j) (So (t.Enabled 0) world₀) neither attributing h world₀ (can-attributing world₀)
-    (λ v y j x. subst (λ (d : _). CanCourse v (onEnabled d noInfo noBooks j) Q) (sym (x .so))
-    (can-claim Q follows noInfo (withOriginal noBooks 0) j v (subst (Before 0 (noBooks .wire) 0 false) (sym (x .world)) start)))
+    can-run Q (λ y d j. onEnabled y noInfo d j) (So (t.Enabled 0) world₀) neither attributing noBooks h world₀ (can-attributing world₀)
+    (λ v y l j x. subst (λ (m : _). CanCourse v (onEnabled m noInfo (slotted noBooks l) j) Q) (sym (x .so))
+    (can-claim Q follows noInfo (withOriginal (slotted noBooks l) 0) j v (subst (Before 0 (noBooks .wire) 0 false) (sym (x .world)) start)))
 
 -- AN OPENING THAT IS GOOD
 pub opening-good : (h : Here) → CanCourse world₀ (opening h) Ready

@@ -8,19 +8,22 @@ use command::CmdResult;
 use hcr::Post;
 use pci::Refusal;
 use session::Client;
+use session::Core;
 use session::Fill;
 use session::Form;
 use session::Gave;
-use session::Held;
-use session::Planned;
-use session::Session;
+use session::Plan;
+use session::Slot;
 use session::Stage;
 use session::Top;
 use work::End;
 use work::Task;
 ghost use mathlib.Core.Path.{_≡_};
 ghost use Prim.Native.Nat.{_<_};
-ghost use Rattle.session.specs.declared.Client.the-variants.{UndoTo};
+ghost use Rattle.session.specs.declared.Core.{Core};
+ghost use Rattle.session.specs.Core.{full, planIn, PlanIs};
+ghost use Rattle.session.specs.Session.{slotAt};
+ghost use Rattle.behind.specs.Behind.{behindIn};
 ghost use Rattle.client_plan.specs.Client.{takesInput, givesOutput, givesImmediate, inAddress, outAddress, postOf, gaveBy, over, lesser};
 ghost use Rattle.client_plan.specs.Plan.{restPlan, fillFor, commandPlan, lendPlan, undoSend, undoPlan, undoToPlan, commandEnded, lendEnded, undoEnded, clientPlan};
 
@@ -64,45 +67,51 @@ fn gives_immediate(form: Form) -> bool
     }
 }
 
-// The input parameter: the client's own, the inbox's address, or none.
-fn in_address(held: Held, form: Form, in_param: u64) -> u64
-    ensures { λ r. ⌜ r ≡ inAddress held form «in_param» ⌝ }
+// The device address of the buffer in a slot.
+fn address(i: usize, m: &[u8]) -> u64
+    ensures { λ r. ⌜ r ≡ slotAt (behindIn (now (m .entry)) .slots) i .dev ⌝ }
 {
-    let inbox = held.inbox;
+    let slot = behind::slot_at(m, i);
+    slot.dev
+}
+
+// The input parameter, whatever the head: the client's own, the inbox's address, or none.
+fn in_address(form: Form, in_param: u64, m: &[u8]) -> u64
+    ensures { λ r. ⌜ ((s : Core) → r ≡ inAddress (full s (behindIn (now (m .entry))) .books) form «in_param») ⌝ }
+{
     match form {
         Form::Imm => in_param,
-        Form::WithIn => session::device(inbox),
+        Form::WithIn => address(Slot::INBOX, m),
         Form::WithOut => 0,
-        Form::InImm => session::device(inbox),
-        Form::InOut => session::device(inbox),
+        Form::InImm => address(Slot::INBOX, m),
+        Form::InOut => address(Slot::INBOX, m),
     }
 }
 
 // The output parameter: the outbox's address, or none.
-fn out_address(held: Held, form: Form) -> u64
-    ensures { λ r. ⌜ r ≡ outAddress held form ⌝ }
+fn out_address(form: Form, m: &[u8]) -> u64
+    ensures { λ r. ⌜ ((s : Core) → r ≡ outAddress (full s (behindIn (now (m .entry))) .books) form) ⌝ }
 {
-    let outbox = held.outbox;
     match form {
         Form::Imm => 0,
         Form::WithIn => 0,
-        Form::WithOut => session::device(outbox),
+        Form::WithOut => address(Slot::OUTBOX, m),
         Form::InImm => 0,
-        Form::InOut => session::device(outbox),
+        Form::InOut => address(Slot::OUTBOX, m),
     }
 }
 
 // The command as it is posted.
-fn post(held: Held, r: Request) -> Post
-    ensures { λ y. ⌜ y ≡ postOf held r ⌝ }
+fn post(r: Request, m: &[u8]) -> Post
+    ensures { λ y. ⌜ ((s : Core) → y ≡ postOf (full s (behindIn (now (m .entry))) .books) r) ⌝ }
 {
     let form = r.form;
     Post {
         op: r.op,
         op_mod: r.op_mod,
         in_mod: r.in_mod,
-        in_param: in_address(held, form, r.in_param),
-        out_param: out_address(held, form),
+        in_param: in_address(form, r.in_param, m),
+        out_param: out_address(form, m),
     }
 }
 
@@ -128,14 +137,10 @@ pub fn copy(to: &mut [u8], from: &[u8])
 }
 
 // The call is over, and this is what it gave.
-fn rest(s: Session, gave: Gave, undo: usize) -> Planned
-    ensures { λ r. ⌜ r ≡ restPlan s gave undo ⌝ }
+fn rest(s: Core, gave: Gave, undo: usize) -> Plan
+    ensures { λ r. ⌜ PlanIs r (λ b. restPlan (full s b) gave undo) ⌝ }
 {
-    Planned {
-        session: giving::rests(s, gave),
-        fill: Fill::Nothing,
-        undo,
-    }
+    Plan::new(giving::rests(s, gave), undo)
 }
 
 // The outbox is zeroed before a command that names it.
@@ -149,37 +154,35 @@ fn fill_for(form: Form) -> Fill
 }
 
 // A client's command begins; its input stands in the inbox.
-pub fn command(s: Session, r: Request, undo: usize) -> Planned
-    ensures { λ y. ⌜ y ≡ commandPlan s r undo ⌝ }
+pub fn command(s: Core, r: Request, undo: usize, m: &[u8]) -> Plan
+    ensures { λ y. ⌜ planIn y (behindIn (now (m .entry)))
+        ≡ commandPlan (full s (behindIn (now (m .entry)))) r undo ⌝ }
 {
     let form = r.form;
-    let books = s.books;
-    let held = books.held;
-    Planned {
-        session: s.send(Stage::Client(Client::Command(form)), post(held, r)),
+    Plan {
+        core: s.send(Stage::Client(Client::Command(form)), post(r, m)),
         fill: fill_for(form),
         undo,
     }
 }
 
-// A lending begins.
-pub fn lend(s: Session, bytes: u64, undo: usize) -> Planned
-    ensures { λ r. ⌜ r ≡ lendPlan s bytes undo ⌝ }
+// A lending begins, in the next slot.
+pub fn lend(s: Core, bytes: u64, undo: usize) -> Plan
+    ensures { λ r. ⌜ PlanIs r (λ b. lendPlan (full s b) bytes undo) ⌝ }
 {
     match Making::start(bytes) {
-        MakeStep::More(k) => Planned {
-            session: s.start(Stage::Client(Client::Lend), Task::Make(k)),
-            fill: Fill::Nothing,
+        MakeStep::More(k) => Plan::new(
+            s.start(Stage::Client(Client::Lend(s.lends)), Task::Make(k)),
             undo,
-        },
+        ),
         MakeStep::Ended(_) => rest(s, Gave::Failed(Refusal::Address), undo),
     }
 }
 
 // The newest undo record is wanted: it is taken off and sent, unless its opcode is reserved by now.
-fn undo_one(s: Session, mark: usize, more: u32, top: Top) -> Planned
+fn undo_one(s: Core, mark: usize, more: u32, top: Top) -> Plan
     requires { ⌜ 0 < top .count ⌝ }
-    ensures { λ r. ⌜ r ≡ undoSend s mark more top ⌝ }
+    ensures { λ r. ⌜ PlanIs r (λ b. undoSend (full s b) mark more top) ⌝ }
 {
     if more == 0 {
         return rest(s.breaks(), Gave::Failed(Refusal::Undo), top.count);
@@ -187,22 +190,20 @@ fn undo_one(s: Session, mark: usize, more: u32, top: Top) -> Planned
     if hcr::reserved(top.op) {
         return rest(s, Gave::Failed(Refusal::Opcode), top.count);
     }
-    Planned {
-        session: s.send(
+    Plan::new(
+        s.send(
             Stage::Client(Client::UndoTo(mark, more - 1)),
             session::imm(top.op, top.op_mod, top.in_mod, top.in_param),
         ),
-        fill: Fill::Nothing,
-        undo: top.count - 1,
-    }
+        top.count - 1,
+    )
 }
 
 // The undo records while there are more than so many, newest first; none on a broken session.
-fn undo(s: Session, mark: usize, more: u32, top: Top) -> Planned
-    ensures { λ r. ⌜ r ≡ undoPlan s mark more top ⌝ }
+fn undo(s: Core, mark: usize, more: u32, top: Top) -> Plan
+    ensures { λ r. ⌜ PlanIs r (λ b. undoPlan (full s b) mark more top) ⌝ }
 {
-    let books = s.books;
-    let wire = books.wire;
+    let wire = s.wire;
     if top.count <= mark {
         return rest(s, Gave::Nothing, top.count);
     }
@@ -213,8 +214,8 @@ fn undo(s: Session, mark: usize, more: u32, top: Top) -> Planned
 }
 
 // The undo records from this one on are to be sent.
-pub fn undo_to(s: Session, mark: usize, top: Top) -> Planned
-    ensures { λ r. ⌜ r ≡ undoToPlan s mark top ⌝ }
+pub fn undo_to(s: Core, mark: usize, top: Top) -> Plan
+    ensures { λ r. ⌜ PlanIs r (λ b. undoToPlan (full s b) mark top) ⌝ }
 {
     undo(s, mark, UNDOS, top)
 }
@@ -238,27 +239,27 @@ fn gave_by(form: Form, r: CmdResult) -> Gave
 }
 
 // A client's command has ended: but for a status, one that failed breaks the session.
-fn commanded(s: Session, form: Form, x: CmdEnd, undo: usize) -> Planned
-    ensures { λ r. ⌜ r ≡ commandEnded s form x undo ⌝ }
+fn commanded(s: Core, form: Form, x: CmdEnd, undo: usize) -> Plan
+    ensures { λ r. ⌜ PlanIs r (λ b. commandEnded (full s b) form x undo) ⌝ }
 {
     let t = s.took(x);
     let result = x.result;
     rest(t.broken_by(result), gave_by(form, result), undo)
 }
 
-// The buffer is lent, or was not to be had.
-fn lent(s: Session, made: Made, undo: usize) -> Planned
-    ensures { λ r. ⌜ r ≡ lendEnded s made undo ⌝ }
+// The buffer of slot i is lent, or was not to be had.
+fn lent(s: Core, i: usize, made: Made, undo: usize) -> Plan
+    ensures { λ r. ⌜ PlanIs r (λ b. lendEnded (full s b) i made undo) ⌝ }
 {
     match made {
-        Made::Ready(b) => rest(s.lends(b), Gave::Lent(b), undo),
+        Made::Ready(_) => rest(s.lend(), Gave::Lent(i), undo),
         Made::Refused(why) => rest(s, Gave::Failed(session::fault_of(why)), undo),
     }
 }
 
 // An undo record was sent: any failure breaks the session and ends the call.
-fn undone(s: Session, mark: usize, more: u32, x: CmdEnd, top: Top) -> Planned
-    ensures { λ r. ⌜ r ≡ undoEnded s mark more x top ⌝ }
+fn undone(s: Core, mark: usize, more: u32, x: CmdEnd, top: Top) -> Plan
+    ensures { λ r. ⌜ PlanIs r (λ b. undoEnded (full s b) mark more x top) ⌝ }
 {
     let t = s.took(x);
     let result = x.result;
@@ -269,12 +270,12 @@ fn undone(s: Session, mark: usize, more: u32, x: CmdEnd, top: Top) -> Planned
 }
 
 // What follows when a task of a client's call has ended.
-pub fn served(s: Session, client: Client, end: End, top: Top) -> Planned
-    ensures { λ r. ⌜ r ≡ clientPlan s client end top ⌝ }
+pub fn served(s: Core, client: Client, end: End, top: Top) -> Plan
+    ensures { λ r. ⌜ PlanIs r (λ b. clientPlan (full s b) client end top) ⌝ }
 {
     match client {
         Client::Command(form) => commanded(s, form, giving::cmd_in(end), top.count),
-        Client::Lend => lent(s, session::made_in(end), top.count),
+        Client::Lend(i) => lent(s, i, session::made_in(end), top.count),
         Client::UndoTo(mark, more) => undone(s, mark, more, giving::cmd_in(end), top),
     }
 }

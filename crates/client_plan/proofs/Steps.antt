@@ -38,14 +38,14 @@ undo-more s mark (suc m) u h =
 
 -- the making has begun, or is refused before any question
 abbrev pub lendBy : Session → MakeStep → ℕ → Planned
-lendBy s (ms.More y) u = planned (starts s (g.Client k.Lend) (t.Make y)) w.Nothing u
+lendBy s (ms.More y) u = planned (starts s (g.Client (k.Lend (s .books .lists .lends))) (t.Make y)) w.Nothing u
 lendBy s (ms.Ended y) u = restPlan s (v.Failed x.Address) u
 
 pub lend-by : (s : Session) (bytes u : ℕ) → lendPlan s bytes u ≡ lendBy s (makeOf bytes) u
 unfolding lendPlan
 lend-by s bytes u = by-pages (pagesFor bytes)
   where
-    by-pages : (y : Outcome ℕ) → byOutcome y (λ n. planned (starts s (g.Client k.Lend) (t.Make (record { bytes = n * 4096; phase = mp.Allocate }))) w.Nothing u) (restPlan s (v.Failed x.Address) u)
+    by-pages : (y : Outcome ℕ) → byOutcome y (λ n. planned (starts s (g.Client (k.Lend (s .books .lists .lends))) (t.Make (record { bytes = n * 4096; phase = mp.Allocate }))) w.Nothing u) (restPlan s (v.Failed x.Address) u)
         ≡ lendBy s (byOutcome y (λ n. ms.More (record { bytes = n * 4096; phase = mp.Allocate })) (ms.Ended (m.Refused q.Address))) u
     by-pages (value n) = refl
     by-pages (refused i vs) = refl

@@ -9,6 +9,7 @@ use Rattle.command.specs.Script.{resultOf, microsOf}
 use Rattle.command.specs.declared.CmdResult.{CmdResult}
 use Rattle.command.specs.declared.CmdResult.the-variants as r
 use Rattle.session.specs.Failures.{gaveOf}
+use Rattle.session.specs.declared.Books.{Books}
 use Rattle.session.specs.declared.Form.{Form}
 use Rattle.client_plan.specs.Client.{givesImmediate, gaveBy}
 
@@ -17,9 +18,9 @@ abbrev pub waiting : ℕ → Outcome ℕ → Outcome (List ℕ)
 waiting us (value y) = value (y ∷ us ∷ [])
 waiting us (refused n vs) = refused n vs
 
-pub told : (k : Form) (x : CmdResult) → givesImmediate k ≡ true → gaveOf (gaveBy k x) ≡ waiting (microsOf x) (resultOf x)
-told k (r.Done y us) e = ap (λ (b : Bool). value (pick b y 0 ∷ us ∷ [])) e
-told k (r.Status s us) e = refl
-told k (r.Timeout us) e = refl
-told k r.Busy e = refl
-told k (r.Bus us) e = refl
+pub told : (b : Books) (k : Form) (x : CmdResult) → givesImmediate k ≡ true → gaveOf b (gaveBy k x) ≡ waiting (microsOf x) (resultOf x)
+told b k (r.Done y us) e = ap (λ (t : Bool). value (pick t y 0 ∷ us ∷ [])) e
+told b k (r.Status s us) e = refl
+told b k (r.Timeout us) e = refl
+told b k r.Busy e = refl
+told b k (r.Bus us) e = refl

@@ -13,10 +13,9 @@ use Rattle.command.specs.declared.CmdResult.the-variants as r
 use Rattle.buffer.specs.Buffer.{making}
 use Rattle.buffer.specs.declared.Made.{Made}
 use Rattle.buffer.specs.declared.Made.the-variants as m
-use Rattle.session.specs.Session.{wired, broken, deviceOf, lentTo}
+use Rattle.session.specs.Session.{wired, broken, inboxOf, outboxOf, lentTo}
 use Rattle.session.specs.Failures.{faultOf, failureOf, brokenBy}
-use Rattle.session.specs.Course.{Course, ret, Here, here, left, blank, task, sends, Rest, atRest}
-use Rattle.session.specs.declared.Held.{Held}
+use Rattle.session.specs.Course.{Course, ret, Here, here, left, blank, Place, neither, slot, run, sends, Rest, atRest}
 use Rattle.session.specs.declared.Books.{Books}
 use Rattle.session.specs.declared.Info.{Info}
 use Rattle.session.specs.declared.Form.{Form}
@@ -51,22 +50,22 @@ givesImmediate o.WithOut = false
 givesImmediate o.InImm = true
 givesImmediate o.InOut = false
 
-abbrev pub inAddress : Held → Form → (inParam : ℕ) → ℕ
-inAddress h o.Imm y = y
-inAddress h o.WithIn y = deviceOf (h .inbox)
-inAddress h o.WithOut y = 0
-inAddress h o.InImm y = deviceOf (h .inbox)
-inAddress h o.InOut y = deviceOf (h .inbox)
+abbrev pub inAddress : Books → Form → (inParam : ℕ) → ℕ
+inAddress b o.Imm y = y
+inAddress b o.WithIn y = inboxOf b .dev
+inAddress b o.WithOut y = 0
+inAddress b o.InImm y = inboxOf b .dev
+inAddress b o.InOut y = inboxOf b .dev
 
-abbrev pub outAddress : Held → Form → ℕ
-outAddress h o.Imm = 0
-outAddress h o.WithIn = 0
-outAddress h o.WithOut = deviceOf (h .outbox)
-outAddress h o.InImm = 0
-outAddress h o.InOut = deviceOf (h .outbox)
+abbrev pub outAddress : Books → Form → ℕ
+outAddress b o.Imm = 0
+outAddress b o.WithIn = 0
+outAddress b o.WithOut = outboxOf b .dev
+outAddress b o.InImm = 0
+outAddress b o.InOut = outboxOf b .dev
 
-abbrev pub postOf : Held → Request → Post
-postOf h y = record { op = y .op; «op_mod» = y .«op_mod»; «in_mod» = y .«in_mod»; «in_param» = inAddress h (y .form) (y .«in_param»); «out_param» = outAddress h (y .form) }
+abbrev pub postOf : Books → Request → Post
+postOf b y = record { op = y .op; «op_mod» = y .«op_mod»; «in_mod» = y .«in_mod»; «in_param» = inAddress b (y .form) (y .«in_param»); «out_param» = outAddress b (y .form) }
 
 -- THE MAILBOXES before the first question: the input at the start of a zeroed inbox, the outbox zeroed
 unfoldable pub over : (from to : List ℕ) → List ℕ
@@ -94,6 +93,10 @@ gaveBy k (r.Timeout us) = v.Failed (failureOf (r.Timeout us))
 gaveBy k r.Busy = v.Failed (failureOf r.Busy)
 gaveBy k (r.Bus us) = v.Failed (failureOf (r.Bus us))
 
+-- the slot of a buffer that is lent; there are 64
+abbrev pub lendAt : ℕ → Place
+lendAt i = pick (ltb i 64) (slot i 0) neither
+
 module _ (n : Info) (f : Failure) (c : Closing) where
   -- the session is open, and this is what the call gave
   abbrev pub gives : Gave → Books → Here → Course Rest
@@ -101,15 +104,15 @@ module _ (n : Info) (f : Failure) (c : Closing) where
 
   -- A COMMAND: "broken is set only there", after 7, 8 and 9
   unfoldable pub commanding : Request → (input : List ℕ) → Books → Here → Course Rest
-  commanding y input b h = sends b (postOf (b .held) y) (λ a d j. gives (gaveBy (y .form) a) (brokenBy a d) j) (readied (y .form) input h)
+  commanding y input b h = sends b (postOf b y) (λ a d j. gives (gaveBy (y .form) a) (brokenBy a d) j) (readied (y .form) input h)
 
-  -- LEND: one buffer more on the list; 5 and 18 leave it
-  abbrev pub lentBy : Made → Books → Here → Course Rest
-  lentBy (m.Ready y) b h = gives (v.Lent y) (lentTo y b) h
-  lentBy (m.Refused e) b h = gives (v.Failed (faultOf e)) b h
+  -- LEND: one buffer more on the list, in the next slot; 5 and 18 leave it
+  abbrev pub lentBy : (i : ℕ) → Made → Books → Here → Course Rest
+  lentBy i (m.Ready y) b h = gives (v.Lent i) (lentTo b) h
+  lentBy i (m.Refused e) b h = gives (v.Failed (faultOf e)) b h
 
   unfoldable pub lending : (bytes : ℕ) → Books → Here → Course Rest
-  lending bytes b h = task (making bytes) (λ y j. lentBy y b j) h
+  lending bytes b h = run (lendAt (b .lists .lends)) (making bytes) (λ y d j. lentBy (b .lists .lends) y d j) b h
 
   -- UNDO_TO: the newest record of the list as it is lent then, while there are more than `mark`. "An undo record is taken off before its command is sent"; "one the caller
   -- has since made so ends it with 22"; "23 undo of a record wanted on a broken session, or an undo

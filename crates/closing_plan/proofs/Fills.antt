@@ -1,16 +1,13 @@
 -- A closing and a quiesce write no mailbox byte: whatever step it comes to, nothing is to be written.
-use Prim.Native.Nat.{ℕ, zero, suc}
+use Prim.Native.Nat.{ℕ, zero, suc, _-_}
 use mathlib.Core.Bool.{Bool, true, false}
 use mathlib.Core.Path.{_≡_, refl}
-use lib.Dec.{eqb, ltb}
+use lib.Dec.{eqb}
 use Rattle.fields.specs.Outcome.{pick}
-use Rattle.dma.specs.declared.Buffer.{Buffer}
 use Rattle.hcr.specs.Words.{isReserved}
 use Rattle.reset.specs.Reset.{isGood}
 use Rattle.work.specs.declared.End.{End}
-use Rattle.session.specs.Session.{tookOf, silencedOf}
-use Rattle.session.specs.declared.Hold.{Hold}
-use Rattle.session.specs.declared.Hold.the-variants as o
+use Rattle.session.specs.Session.{tookOf, silencedOf, slotAt, isHeld, faOf, auxOf}
 use Rattle.session.specs.declared.Top.{Top}
 use Rattle.session.specs.declared.Close.{Close}
 use Rattle.session.specs.declared.Close.the-variants as k
@@ -19,43 +16,20 @@ use Rattle.session.specs.declared.Closing.the-variants as c
 use Rattle.session.specs.declared.Fill.the-variants as w
 use Rattle.session.specs.declared.Session.{Session}
 use Rattle.session.specs.declared.Planned.{Planned}
-use Rattle.closing_plan.specs.Closing.{isDone, isHeld, UNDOS}
-use Rattle.closing_plan.specs.Plan.{cmdIn, resetIn, onHold, closesOf, outboxPlan, inboxPlan, faPlan, auxPlan, icmPlan, lentPlan, givePlan, failedPlan, quiescePlan, stoppedPlan, unmapFaPlan, unmapAuxPlan, unmapPlan, closeHcaPlan, undoSend, undoPlan, stopPlan, closePlan}
+use Rattle.closing_plan.specs.Closing.{isDone, UNDOS}
+use Rattle.closing_plan.specs.Plan.{cmdIn, resetIn, closesOf, freesPlan, givePlan, failedPlan, quiescePlan, stoppedPlan, unmapFaPlan, unmapAuxPlan, unmapPlan, closeHcaPlan, undoSend, undoPlan, stopPlan, closePlan}
 
 pick-fill : (b : Bool) (x y : Planned) → x .fill ≡ w.Nothing → y .fill ≡ w.Nothing → pick b x y .fill ≡ w.Nothing
 pick-fill true x y d e = d
 pick-fill false x y d e = e
 
-hold-fill : (h : Hold) (f : Buffer → Planned) (z : Planned) → ((b : Buffer) → f b .fill ≡ w.Nothing) → z .fill ≡ w.Nothing → onHold h f z .fill ≡ w.Nothing
-hold-fill o.Absent f z d e = e
-hold-fill (o.Held b) f z d e = d b
-
-outbox-fill : (s : Session) (u : ℕ) → outboxPlan s u .fill ≡ w.Nothing
-unfolding outboxPlan
-outbox-fill s u = hold-fill (s .books .held .outbox) _ _ (λ b. refl) refl
-
-inbox-fill : (s : Session) (u : ℕ) → inboxPlan s u .fill ≡ w.Nothing
-unfolding inboxPlan
-inbox-fill s u = hold-fill (s .books .held .inbox) _ _ (λ b. refl) (outbox-fill s u)
-
-fa-fill : (s : Session) (u : ℕ) → faPlan s u .fill ≡ w.Nothing
-unfolding faPlan
-fa-fill s u = hold-fill (s .books .held .fa) _ _ (λ b. refl) (inbox-fill s u)
-
-aux-fill : (s : Session) (u : ℕ) → auxPlan s u .fill ≡ w.Nothing
-unfolding auxPlan
-aux-fill s u = hold-fill (s .books .held .aux) _ _ (λ b. refl) (fa-fill s u)
-
-icm-fill : (s : Session) (i u : ℕ) → icmPlan s i u .fill ≡ w.Nothing
-unfolding icmPlan
-icm-fill s i u = pick-fill (ltb i (s .books .lists .ranges)) _ _ refl (aux-fill s u)
-
-lent-fill : (s : Session) (i u : ℕ) → lentPlan s i u .fill ≡ w.Nothing
-unfolding lentPlan
-lent-fill s i u = pick-fill (ltb i (s .books .lists .lends)) _ _ refl (icm-fill s 0 u)
+frees-fill : (m i : ℕ) (s : Session) (u : ℕ) → freesPlan m i s u .fill ≡ w.Nothing
+unfolding freesPlan
+frees-fill zero i s u = refl
+frees-fill (suc m) i s u = pick-fill (isHeld (slotAt (s .books .lists .slots) i)) _ _ refl (frees-fill m (suc i) s u)
 
 give-fill : (s : Session) (c : Closing) (u : ℕ) → givePlan s c u .fill ≡ w.Nothing
-give-fill s c u = lent-fill (closesOf s c (s .books)) 0 u
+give-fill s c u = frees-fill 82 0 (closesOf s c (s .books)) u
 
 failed-fill : (s : Session) (u : ℕ) → failedPlan s u .fill ≡ w.Nothing
 unfolding failedPlan
@@ -67,11 +41,11 @@ stopped-fill s u = pick-fill (s .books .wire .silent) _ _ refl (pick-fill (s .bo
 
 unmap-fa-fill : (s : Session) (u : ℕ) → unmapFaPlan s u .fill ≡ w.Nothing
 unfolding unmapFaPlan
-unmap-fa-fill s u = pick-fill (isHeld (s .books .held .fa)) _ _ refl (stopped-fill s u)
+unmap-fa-fill s u = pick-fill (isHeld (faOf (s .books))) _ _ refl (stopped-fill s u)
 
 unmap-aux-fill : (s : Session) (u : ℕ) → unmapAuxPlan s u .fill ≡ w.Nothing
 unfolding unmapAuxPlan
-unmap-aux-fill s u = pick-fill (isHeld (s .books .held .aux)) _ _ refl (unmap-fa-fill s u)
+unmap-aux-fill s u = pick-fill (isHeld (auxOf (s .books))) _ _ refl (unmap-fa-fill s u)
 
 unmap-fill : (s : Session) (i u : ℕ) → unmapPlan s i u .fill ≡ w.Nothing
 unfolding unmapPlan
@@ -107,11 +81,6 @@ close-fill k.UnmapAux s y u = pick-fill (isDone (cmdIn y .result)) _ _ (unmap-fa
 close-fill k.UnmapFa s y u = pick-fill (isDone (cmdIn y .result)) _ _ (stopped-fill (tookOf s (cmdIn y)) (u .count)) (failed-fill (tookOf s (cmdIn y)) (u .count))
 close-fill k.Quiesce s y u = refl
 close-fill k.Reset s y u = pick-fill (isGood (resetIn y)) _ _ (give-fill s c.Reset (u .count)) refl
-close-fill (k.FreeLent i) s y u = lent-fill s i (u .count)
-close-fill (k.FreeIcm i) s y u = icm-fill s i (u .count)
-close-fill k.FreeAux s y u = fa-fill s (u .count)
-close-fill k.FreeFa s y u = inbox-fill s (u .count)
-close-fill k.FreeInbox s y u = outbox-fill s (u .count)
-close-fill k.FreeOutbox s y u = refl
+close-fill (k.Free i) s y u = frees-fill (81 - i) (suc i) s (u .count)
 close-fill k.Release s y u = refl
 close-fill k.Restore s y u = refl

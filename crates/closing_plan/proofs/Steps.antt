@@ -19,11 +19,11 @@ unmap-none s zero u h = refl
 unmap-none s (suc i) u h = absurd (let g : suc i ≡ 0 = h in let z : ⊥ = omega arith in z)
 
 pub unmap-more : (s : Session) (i u : ℕ) → (i ≡ 0 → ⊥)
-    → unmapPlan s i u ≡ sendPlan s (k.Unmap (i - 1)) 0xff9 (icmAt (s .books .lists .icm) (i - 1) .pages % 2 ^ 32) (icmAt (s .books .lists .icm) (i - 1) .virt) u
+    → unmapPlan s i u ≡ sendPlan s (k.Unmap (i - 1)) 0xff9 (icmAt (s .books .lists .slots) (i - 1) .pages % 2 ^ 32) (icmAt (s .books .lists .slots) (i - 1) .virt) u
 unfolding unmapPlan
 unmap-more s zero u h = absurd (h refl)
 unmap-more s (suc i) u h =
-    ap (λ (m : ℕ). sendPlan s (k.Unmap m) 0xff9 (icmAt (s .books .lists .icm) m .pages % 2 ^ 32) (icmAt (s .books .lists .icm) m .virt) u) (let e : i ≡ suc i - 1 = omega arith in e)
+    ap (λ (m : ℕ). sendPlan s (k.Unmap m) 0xff9 (icmAt (s .books .lists .slots) m .pages % 2 ^ 32) (icmAt (s .books .lists .slots) m .virt) u) (let e : i ≡ suc i - 1 = omega arith in e)
 
 pub undo-none : (s : Session) (m : ℕ) (u : Top) → m ≡ 0 → undoSend s m u ≡ failedPlan s (u .count)
 undo-none s zero u h = refl

@@ -3,11 +3,8 @@
 -- or keeps all if the reset failed. The result clean, reset or kept is added." And quiesce, which sends the same commands, silent, and gives nothing back.
 use Prim.Native.Nat.{ℕ, zero, suc, _-_, _%_, _^_}
 use mathlib.Core.Bool.{Bool, true, false}
-use mathlib.Core.List.{List, [], _∷_, _++_}
 use lib.Dec.{eqb}
 use Rattle.fields.specs.Outcome.{pick}
-use Rattle.dma.specs.Pages.{table}
-use Rattle.dma.specs.declared.Buffer.{Buffer}
 use Rattle.hcr.specs.Words.{isReserved}
 use Rattle.hcr.specs.declared.Post.{Post}
 use Rattle.command.specs.declared.CmdResult.{CmdResult}
@@ -15,10 +12,8 @@ use Rattle.command.specs.declared.CmdResult.the-variants as r
 use Rattle.reset.specs.Reset.{reset, isGood}
 use Rattle.buffer.specs.Buffer.{freeing}
 use Rattle.tasks.specs.Parting.{releasing, restoring, quieting}
-use Rattle.session.specs.Session.{wired, broken, silent, books, bufferAt, icmAt, bufferOf, immOf}
-use Rattle.session.specs.Course.{Course, ret, Here, here, left, task, sends, Rest, atRest}
-use Rattle.session.specs.declared.Hold.{Hold}
-use Rattle.session.specs.declared.Hold.the-variants as o
+use Rattle.session.specs.Session.{wired, broken, silent, slotAt, icmAt, isHeld, faOf, auxOf, immOf}
+use Rattle.session.specs.Course.{Course, ret, Here, here, left, slot, run, task, sends, Rest, atRest}
 use Rattle.session.specs.declared.Top.{Top}
 use Rattle.session.specs.declared.Books.{Books}
 use Rattle.session.specs.declared.Info.{Info}
@@ -36,33 +31,6 @@ isDone (r.Timeout us) = false
 isDone r.Busy = false
 isDone (r.Bus us) = false
 
--- WHAT IS HELD, in the order in which it is freed: lent buffers oldest first, ICM ranges in mapping order, the auxiliary area, the firmware area, inbox, outbox
-abbrev pub inHold : Hold → List Buffer
-inHold o.Absent = []
-inHold (o.Held x) = x ∷ []
-
-abbrev pub isHeld : Hold → Bool
-isHeld o.Absent = false
-isHeld (o.Held x) = true
-
-abbrev pub boxes : Books → List Buffer
-boxes b = inHold (b .held .inbox) ++ inHold (b .held .outbox)
-
-abbrev pub areas : Books → List Buffer
-areas b = inHold (b .held .aux) ++ (inHold (b .held .fa) ++ boxes b)
-
-abbrev pub rangesFrom : Books → ℕ → List Buffer
-rangesFrom b i = table (λ k. bufferOf (icmAt (b .lists .icm) k)) i (b .lists .ranges - i) ++ areas b
-
-abbrev pub lendsFrom : Books → ℕ → List Buffer
-lendsFrom b i = table (λ k. bufferAt (b .lists .lent) k) i (b .lists .lends - i) ++ rangesFrom b 0
-
--- the books once all is freed
-abbrev pub emptied : Books → Books
-emptied b =
-    books (b .wire) (record { inbox = o.Absent; outbox = o.Absent; fa = o.Absent; aux = o.Absent })
-    (record { icm = b .lists .icm; ranges = 0; lent = b .lists .lent; lends = 0 }) (b .started) (b .original)
-
 -- the newest undo record as a command, and the list without it
 abbrev pub undoPost : Top → Post
 undoPost u = immOf (u .op) (u .«op_mod») (u .«in_mod») (u .«in_param»)
@@ -79,26 +47,29 @@ UNDOS = 2 ^ 32 - 1
 module _ (n : Info) (f : Failure) where
   -- the end: the owner is released, the attributes are restored
   unfoldable pub restored : Closing → Books → Here → Course Rest
-  restored c b h = task (restoring (b .original)) (λ x k. ret (left k) (atRest g.Ended b n f c)) h
+  restored c b h = task (restoring (b .original)) (λ x d k. ret (left k) (atRest g.Ended d n f c)) b h
 
   unfoldable pub parted : Closing → Books → Here → Course Rest
-  parted c b h = task releasing (λ x k. restored c b k) h
+  parted c b h = task releasing (λ x d k. restored c d k) b h
 
-  -- the buffers, one by one
-  unfoldable pub freed : List Buffer → (Here → Course Rest) → Here → Course Rest
-  freed [] k h = k h
-  freed (x ∷ xs) k h = task (freeing (x .handle) (x .pages)) (λ u j. freed xs k j) h
+  -- the m slots from i on, one by one: a buffer is freed, and is off the books with the answer to its free
+  unfoldable pub freed : (m i : ℕ) → (Books → Here → Course Rest) → Books → Here → Course Rest
+  freed zero i k b h = k b h
+  freed (suc m) i k b h =
+      pick (isHeld (slotAt (b .lists .slots) i))
+      (run (slot i 0) (freeing (slotAt (b .lists .slots) i .handle) (slotAt (b .lists .slots) i .pages)) (λ u d j. freed m (suc i) k d j) b h)
+      (freed m (suc i) k b h)
 
   unfoldable pub giving : Closing → Books → Here → Course Rest
-  giving c b h = freed (lendsFrom b 0) (λ k. parted c (emptied b) k) h
+  giving c b h = freed 82 0 (λ d k. parted c d k) b h
 
   -- "or keeps all if the reset failed"
   unfoldable pub resetting : Books → Here → Course Rest
-  resetting b h = task reset (λ e k. pick (isGood e) (giving c.Reset b k) (parted c.Kept b k)) h
+  resetting b h = task reset (λ e d k. pick (isGood e) (giving c.Reset d k) (parted c.Kept d k)) b h
 
   -- the end of a quiesce: the session is broken, the owner register is cleared without the wait, and the bus master bit; nothing is freed, reset or restored
   unfoldable pub quieted : Books → Here → Course Rest
-  quieted b h = task quieting (λ x k. ret (left k) (atRest (g.Open v.Nothing) (wired b (broken (b .wire))) n f c.Clean)) h
+  quieted b h = task quieting (λ x d k. ret (left k) (atRest (g.Open v.Nothing) d n f c.Clean)) (wired b (broken (b .wire))) h
 
   -- "if one fails .. it resets"; a quiesce, which is silent, ends
   unfoldable pub failing : Books → Here → Course Rest
@@ -112,19 +83,19 @@ module _ (n : Info) (f : Failure) where
   onward k x b h = pick (isDone x) (k b h) (failing b h)
 
   unfoldable pub unmapFa : Books → Here → Course Rest
-  unmapFa b h = pick (isHeld (b .held .fa)) (sends b (immOf 0xffe 0 0 0) (onward stopped) h) (stopped b h)
+  unmapFa b h = pick (isHeld (faOf b)) (sends b (immOf 0xffe 0 0 0) (onward stopped) h) (stopped b h)
 
   unfoldable pub unmapAux : Books → Here → Course Rest
-  unmapAux b h = pick (isHeld (b .held .aux)) (sends b (immOf 0xffb 0 0 0) (onward unmapFa) h) (unmapFa b h)
+  unmapAux b h = pick (isHeld (auxOf b)) (sends b (immOf 0xffb 0 0 0) (onward unmapFa) h) (unmapFa b h)
 
   -- the ranges below i, newest first; a range's pages and its card address
   unfoldable pub unmapping : (i : ℕ) → Books → Here → Course Rest
   unmapping zero b h = unmapAux b h
   unmapping (suc i) b h =
-      sends b (immOf 0xff9 0 (icmAt (b .lists .icm) i .pages % 2 ^ 32) (icmAt (b .lists .icm) i .virt)) (onward (unmapping i)) h
+      sends b (immOf 0xff9 0 (icmAt (b .lists .slots) i .pages % 2 ^ 32) (icmAt (b .lists .slots) i .virt)) (onward (unmapping i)) h
 
   unfoldable pub closeHca : Books → Here → Course Rest
-  closeHca b h = pick (b .started) (sends b (immOf 0x008 0 0 0) (onward (unmapping (b .lists .ranges))) h) (unmapping (b .lists .ranges) b h)
+  closeHca b h = pick (b .started) (sends b (immOf 0x008 0 0 0) (onward (λ d j. unmapping (d .lists .ranges) d j)) h) (unmapping (b .lists .ranges) b h)
 
   -- the newest record of the list as it is lent then: "An undo record is taken off before its command is sent; one under 22 stays on, but .. counts as a failed
   -- undo command"

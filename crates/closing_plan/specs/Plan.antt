@@ -1,8 +1,7 @@
 -- The plan of a closing and of a quiesce: what follows when a task has ended, as a function on the session.
-use Prim.Native.Nat.{ℕ, zero, suc, _+_, _%_, _^_}
+use Prim.Native.Nat.{ℕ, zero, suc, _-_, _%_, _^_}
 use mathlib.Core.Bool.{true}
-use mathlib.Core.List.{List, _++_}
-use lib.Dec.{eqb, ltb}
+use lib.Dec.{eqb}
 use Rattle.fields.specs.Outcome.{pick}
 use Rattle.dma.specs.declared.Buffer.{Buffer}
 use Rattle.hcr.specs.Words.{isReserved}
@@ -18,10 +17,8 @@ use Rattle.work.specs.Work.{working, workScript}
 use Rattle.work.specs.declared.Task.the-variants as t
 use Rattle.work.specs.declared.End.{End}
 use Rattle.work.specs.declared.End.the-variants as e
-use Rattle.session.specs.Session.{session, starts, sendsOf, tookOf, breaksOf, silencedOf, planned, bufferAt, icmAt, bufferOf, immOf, wired, after}
-use Rattle.session.specs.Course.{Course, ret, Here, here, left, task, Rest, atRest}
-use Rattle.session.specs.declared.Hold.{Hold}
-use Rattle.session.specs.declared.Hold.the-variants as o
+use Rattle.session.specs.Session.{session, starts, sendsOf, tookOf, breaksOf, silencedOf, bookkeeps, planned, slotAt, icmAt, bufferOf, isHeld, faOf, auxOf, immOf, wired, after}
+use Rattle.session.specs.Course.{Course, ret, Here, here, left, Place, neither, slot, run, Rest, atRest}
 use Rattle.session.specs.declared.Top.{Top}
 use Rattle.session.specs.declared.Books.{Books}
 use Rattle.session.specs.declared.Gave.{Gave}
@@ -35,7 +32,7 @@ use Rattle.session.specs.declared.Closing.the-variants as c
 use Rattle.session.specs.declared.Fill.the-variants as w
 use Rattle.session.specs.declared.Session.{Session}
 use Rattle.session.specs.declared.Planned.{Planned}
-use Rattle.closing_plan.specs.Closing.{isDone, isHeld, emptied, undoPost, popped, UNDOS, lendsFrom, rangesFrom, inHold, boxes}
+use Rattle.closing_plan.specs.Closing.{isDone, undoPost, popped, UNDOS}
 use Rattle.closing_plan.specs.Closing as q
 
 -- how a command and a reset ended; a task of the plan ends in its own kind, any other counts as failed
@@ -86,33 +83,14 @@ releasePlan s u = planned (starts s (g.Close k.Release) (t.Part p.Disown)) w.Not
 abbrev pub freePlan : Session → Close → Buffer → ℕ → Planned
 freePlan s st b u = planned (starts s (g.Close st) (t.Free (startFree b))) w.Nothing u
 
-abbrev pub onHold : {A : Type 0} → Hold → (Buffer → A) → A → A
-onHold o.Absent f z = z
-onHold (o.Held b) f z = f b
-
-abbrev pub givenPlan : Session → ℕ → Planned
-givenPlan s u = releasePlan (closesOf s (s .closing) (emptied (s .books))) u
-
-unfoldable pub outboxPlan : Session → ℕ → Planned
-outboxPlan s u = onHold (s .books .held .outbox) (λ b. freePlan s k.FreeOutbox b u) (givenPlan s u)
-
-unfoldable pub inboxPlan : Session → ℕ → Planned
-inboxPlan s u = onHold (s .books .held .inbox) (λ b. freePlan s k.FreeInbox b u) (outboxPlan s u)
-
-unfoldable pub faPlan : Session → ℕ → Planned
-faPlan s u = onHold (s .books .held .fa) (λ b. freePlan s k.FreeFa b u) (inboxPlan s u)
-
-unfoldable pub auxPlan : Session → ℕ → Planned
-auxPlan s u = onHold (s .books .held .aux) (λ b. freePlan s k.FreeAux b u) (faPlan s u)
-
-unfoldable pub icmPlan : Session → (i : ℕ) → ℕ → Planned
-icmPlan s i u = pick (ltb i (s .books .lists .ranges)) (freePlan s (k.FreeIcm (i + 1)) (bufferOf (icmAt (s .books .lists .icm) i)) u) (auxPlan s u)
-
-unfoldable pub lentPlan : Session → (i : ℕ) → ℕ → Planned
-lentPlan s i u = pick (ltb i (s .books .lists .lends)) (freePlan s (k.FreeLent (i + 1)) (bufferAt (s .books .lists .lent) i) u) (icmPlan s 0 u)
+-- the next of the m slots from i on that has a buffer; behind the last the owner is released
+unfoldable pub freesPlan : (m i : ℕ) → Session → ℕ → Planned
+freesPlan zero i s u = releasePlan s u
+freesPlan (suc m) i s u =
+    pick (isHeld (slotAt (s .books .lists .slots) i)) (freePlan s (k.Free i) (bufferOf (slotAt (s .books .lists .slots) i)) u) (freesPlan m (suc i) s u)
 
 abbrev pub givePlan : Session → Closing → ℕ → Planned
-givePlan s c u = lentPlan (closesOf s c (s .books)) 0 u
+givePlan s c u = freesPlan 82 0 (closesOf s c (s .books)) u
 
 abbrev pub resetPlan : Session → ℕ → Planned
 resetPlan s u = planned (resetsOf s (g.Close k.Reset)) w.Nothing u
@@ -131,14 +109,14 @@ abbrev pub sendPlan : Session → Close → (op inMod inParam : ℕ) → ℕ →
 sendPlan s st op m x u = planned (sendsOf s (g.Close st) (immOf op 0 m x)) w.Nothing u
 
 unfoldable pub unmapFaPlan : Session → ℕ → Planned
-unmapFaPlan s u = pick (isHeld (s .books .held .fa)) (sendPlan s k.UnmapFa 0xffe 0 0 u) (stoppedPlan s u)
+unmapFaPlan s u = pick (isHeld (faOf (s .books))) (sendPlan s k.UnmapFa 0xffe 0 0 u) (stoppedPlan s u)
 
 unfoldable pub unmapAuxPlan : Session → ℕ → Planned
-unmapAuxPlan s u = pick (isHeld (s .books .held .aux)) (sendPlan s k.UnmapAux 0xffb 0 0 u) (unmapFaPlan s u)
+unmapAuxPlan s u = pick (isHeld (auxOf (s .books))) (sendPlan s k.UnmapAux 0xffb 0 0 u) (unmapFaPlan s u)
 
 unfoldable pub unmapPlan : Session → (i : ℕ) → ℕ → Planned
 unmapPlan s zero u = unmapAuxPlan s u
-unmapPlan s (suc i) u = sendPlan s (k.Unmap i) 0xff9 (icmAt (s .books .lists .icm) i .pages % 2 ^ 32) (icmAt (s .books .lists .icm) i .virt) u
+unmapPlan s (suc i) u = sendPlan s (k.Unmap i) 0xff9 (icmAt (s .books .lists .slots) i .pages % 2 ^ 32) (icmAt (s .books .lists .slots) i .virt) u
 
 unfoldable pub closeHcaPlan : Session → ℕ → Planned
 closeHcaPlan s u = pick (s .books .started) (sendPlan s k.CloseHca 0x008 0 0 u) (unmapPlan s (s .books .lists .ranges) u)
@@ -173,12 +151,7 @@ closePlanAt s y u k.UnmapAux = onwardPlan (cmdIn y) (unmapFaPlan (tookOf s (cmdI
 closePlanAt s y u k.UnmapFa = onwardPlan (cmdIn y) (stoppedPlan (tookOf s (cmdIn y)) (u .count)) (failedPlan (tookOf s (cmdIn y)) (u .count))
 closePlanAt s y u k.Quiesce = planned (restsOf s v.Nothing) w.Nothing (u .count)
 closePlanAt s y u k.Reset = wasReset s (resetIn y) (u .count)
-closePlanAt s y u (k.FreeLent i) = lentPlan s i (u .count)
-closePlanAt s y u (k.FreeIcm i) = icmPlan s i (u .count)
-closePlanAt s y u k.FreeAux = faPlan s (u .count)
-closePlanAt s y u k.FreeFa = inboxPlan s (u .count)
-closePlanAt s y u k.FreeInbox = outboxPlan s (u .count)
-closePlanAt s y u k.FreeOutbox = givenPlan s (u .count)
+closePlanAt s y u (k.Free i) = freesPlan (81 - i) (suc i) s (u .count)
 closePlanAt s y u k.Release = restorePlan s (u .count)
 closePlanAt s y u k.Restore = planned (endsOf s) w.Nothing (u .count)
 
@@ -192,9 +165,6 @@ tookBooks s y = wired (s .books) (after (s .books .wire) (cmdIn y))
 abbrev pub then : Session → End → (Books → Here → Course Rest) → Here → Course Rest
 then s y next h = q.onward (s .info) (s .failure) next (cmdIn y .result) (tookBooks s y) h
 
-abbrev pub gone : Session → List Buffer → Here → Course Rest
-gone s bs h = q.freed (s .info) (s .failure) bs (λ j. q.parted (s .info) (s .failure) (s .closing) (emptied (s .books)) j) h
-
 abbrev pub afterClose : Close → Session → End → Here → Course Rest
 afterClose (k.Undo m) s y h = then s y (q.undoing (s .info) (s .failure) m) h
 afterClose k.CloseHca s y h = then s y (q.unmapping (s .info) (s .failure) (s .books .lists .ranges)) h
@@ -204,17 +174,25 @@ afterClose k.UnmapFa s y h = then s y (q.stopped (s .info) (s .failure)) h
 afterClose k.Quiesce s y h = ret (left h) (atRest (g.Open v.Nothing) (s .books) (s .info) (s .failure) (s .closing))
 afterClose k.Reset s y h =
     pick (isGood (resetIn y)) (q.giving (s .info) (s .failure) c.Reset (s .books) h) (q.parted (s .info) (s .failure) c.Kept (s .books) h)
-afterClose (k.FreeLent i) s y h = gone s (lendsFrom (s .books) i) h
-afterClose (k.FreeIcm i) s y h = gone s (rangesFrom (s .books) i) h
-afterClose k.FreeAux s y h = gone s (inHold (s .books .held .fa) ++ boxes (s .books)) h
-afterClose k.FreeFa s y h = gone s (boxes (s .books)) h
-afterClose k.FreeInbox s y h = gone s (inHold (s .books .held .outbox)) h
-afterClose k.FreeOutbox s y h = q.parted (s .info) (s .failure) (s .closing) (emptied (s .books)) h
+afterClose (k.Free i) s y h = q.freed (s .info) (s .failure) (81 - i) (suc i) (λ d j. q.parted (s .info) (s .failure) (s .closing) d j) (s .books) h
 afterClose k.Release s y h = q.restored (s .info) (s .failure) (s .closing) (s .books) h
 afterClose k.Restore s y h = ret (left h) (atRest g.Ended (s .books) (s .info) (s .failure) (s .closing))
 
+-- the slot that the task under way frees
+abbrev pub placeIn : Close → Place
+placeIn (k.Undo m) = neither
+placeIn k.CloseHca = neither
+placeIn (k.Unmap i) = neither
+placeIn k.UnmapAux = neither
+placeIn k.UnmapFa = neither
+placeIn k.Quiesce = neither
+placeIn k.Reset = neither
+placeIn (k.Free i) = slot i 0
+placeIn k.Release = neither
+placeIn k.Restore = neither
+
 unfoldable pub closeCourse : Close → Session → Here → Course Rest
-closeCourse st s h = task (workScript (h .inbox) (s .work)) (afterClose st s) h
+closeCourse st s h = run (placeIn st) (workScript (h .inbox) (s .work)) (λ y d j. afterClose st (bookkeeps s d) y j) (s .books) h
 
 -- where a plan leads, with what it left of the undo list
 abbrev pub planHere : Planned → Here → Here

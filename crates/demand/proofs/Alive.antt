@@ -1,5 +1,5 @@
 -- What the machine's plans keep, so that it goes on: the lists are within their arrays, and where a call runs a task is under way.
-use Prim.Native.Nat.{ℕ, zero, suc}
+use Prim.Native.Nat.{ℕ, zero, suc, _-_}
 use mathlib.Core.Bool.{Bool, true, false, false≢true}
 use mathlib.Core.List.{List}
 use mathlib.Core.Path.{_≡_, refl, sym, _∙_, subst}
@@ -68,10 +68,8 @@ use Rattle.work.specs.declared.Work.{Work}
 use Rattle.work.specs.declared.End.{End}
 use Rattle.work.specs.declared.Ending.{Ending}
 use Rattle.work.specs.declared.Ending.the-variants as e
-use Rattle.session.specs.Failures.{madeIn, needsReset}
-use Rattle.session.specs.Session.{session, starts, tookOf, silencedOf, bookkeeps, informs}
-use Rattle.session.specs.declared.Hold.{Hold}
-use Rattle.session.specs.declared.Hold.the-variants as o
+use Rattle.session.specs.Failures.{madeIn, needsReset, faultOf}
+use Rattle.session.specs.Session.{session, starts, tookOf, silencedOf, bookkeeps, informs, slotAt, isHeld, faOf, auxOf}
 use Rattle.session.specs.declared.Top.{Top}
 use Rattle.session.specs.declared.Books.{Books}
 use Rattle.session.specs.declared.Info.{Info}
@@ -93,8 +91,8 @@ use Rattle.session.specs.declared.Closing.the-variants as c
 use Rattle.session.specs.declared.Fill.the-variants as w
 use Rattle.session.specs.declared.Session.{Session}
 use Rattle.session.specs.declared.Planned.{Planned}
-use Rattle.closing_plan.specs.Closing.{isDone, isHeld, UNDOS}
-use Rattle.closing_plan.specs.Plan.{cmdIn, resetIn, onHold, givenPlan, outboxPlan, inboxPlan, faPlan, auxPlan, icmPlan, lentPlan, failedPlan, stoppedPlan, unmapFaPlan, unmapAuxPlan, unmapPlan, closeHcaPlan, undoSend, undoPlan, stopPlan, quiescePlan, closesOf, closePlanAt, closePlan}
+use Rattle.closing_plan.specs.Closing.{isDone, UNDOS}
+use Rattle.closing_plan.specs.Plan.{cmdIn, resetIn, freesPlan, failedPlan, stoppedPlan, unmapFaPlan, unmapAuxPlan, unmapPlan, closeHcaPlan, undoSend, undoPlan, stopPlan, quiescePlan, closesOf, closePlanAt, closePlan}
 use Rattle.client_plan.specs.Client.{givesOutput}
 use Rattle.client_plan.specs.Plan as cl
 use Rattle.client_plan.specs.Plan.{commandPlan, lendPlan, lendEnded, clientPlanAt, clientPlan}
@@ -105,7 +103,7 @@ use Rattle.opening_plan.specs.Plan as n
 use Rattle.opening_plan.specs.Plan.{attrIn, claimIn, barIn, failPlan, failByPlan, funcPlan, makePlan, nextRange, mappedPlan, mapPlan, areaPlan, layoutPlan, portPlan, fwReplied, capReplied, portReplied, funcReplied, bootPlanAt, bootPlan, preparePlanAt, preparePlan, lists}
 use Rattle.work.specs.Work.{isResting}
 use Rattle.fw_plan.specs.Follows.{isRunning}
-use Rattle.fw_plan.specs.Calls.{isSession, withWork, filled, stepTurn, stepOf}
+use Rattle.fw_plan.specs.Calls.{bookedOf, isSession, withWork, filled, stepTurn, stepOf}
 use Rattle.calls_plan.specs.Calls.{withoutFailure, readyIn, planFor, begunTurn}
 use Rattle.calls_plan.specs.declared.Call.{Call}
 use Rattle.calls_plan.specs.declared.Call.the-variants as kn
@@ -209,38 +207,11 @@ module _ (i : List ℕ) (len : length i ≡ 4096) where
   begun-pick true y z h d = h
   begun-pick false y z h d = d
 
-  begun-hold : (x : Hold) (y : Buffer → Planned) (z : Planned) → ((d : Buffer) → Begun (y d)) → Begun z → Begun (onHold x y z)
-  begun-hold o.Absent y z h d = d
-  begun-hold (o.Held x) y z h d = h x
-
   -- CLOSING
-  module _ (s : Session) (n : ℕ) where
-    given : Begun (givenPlan s n)
-    given = refl
-
-    out-freed : Begun (outboxPlan s n)
-    unfolding outboxPlan
-    out-freed = begun-hold (s .books .held .outbox) _ _ (λ d. refl) given
-
-    in-freed : Begun (inboxPlan s n)
-    unfolding inboxPlan
-    in-freed = begun-hold (s .books .held .inbox) _ _ (λ d. refl) out-freed
-
-    fa-freed : Begun (faPlan s n)
-    unfolding faPlan
-    fa-freed = begun-hold (s .books .held .fa) _ _ (λ d. refl) in-freed
-
-    aux-freed : Begun (auxPlan s n)
-    unfolding auxPlan
-    aux-freed = begun-hold (s .books .held .aux) _ _ (λ d. refl) fa-freed
-
-    icm-freed : (j : ℕ) → Begun (icmPlan s j n)
-    unfolding icmPlan
-    icm-freed j = begun-pick (ltb j (s .books .lists .ranges)) _ _ refl aux-freed
-
-    lent-freed : (j : ℕ) → Begun (lentPlan s j n)
-    unfolding lentPlan
-    lent-freed j = begun-pick (ltb j (s .books .lists .lends)) _ _ refl (icm-freed 0)
+  freed : (m j : ℕ) (s : Session) (n : ℕ) → Begun (freesPlan m j s n)
+  unfolding freesPlan
+  freed zero j s n = refl
+  freed (suc m) j s n = begun-pick (isHeld (slotAt (s .books .lists .slots) j)) _ _ refl (freed m (suc j) s n)
 
   not-done : (s : Session) (n : ℕ) → Begun (failedPlan s n)
   unfolding failedPlan
@@ -249,15 +220,15 @@ module _ (i : List ℕ) (len : length i ≡ 4096) where
   stopped : (s : Session) (n : ℕ) → Begun (stoppedPlan s n)
   unfolding stoppedPlan
   stopped s n =
-      begun-pick (s .books .wire .silent) _ _ refl (begun-pick (s .books .wire .running) _ _ refl (lent-freed (closesOf s c.Clean (s .books)) n 0))
+      begun-pick (s .books .wire .silent) _ _ refl (begun-pick (s .books .wire .running) _ _ refl (freed 82 0 (closesOf s c.Clean (s .books)) n))
 
   fa-sent : (s : Session) (n : ℕ) → Begun (unmapFaPlan s n)
   unfolding unmapFaPlan
-  fa-sent s n = begun-pick (isHeld (s .books .held .fa)) _ _ refl (stopped s n)
+  fa-sent s n = begun-pick (isHeld (faOf (s .books))) _ _ refl (stopped s n)
 
   aux-sent : (s : Session) (n : ℕ) → Begun (unmapAuxPlan s n)
   unfolding unmapAuxPlan
-  aux-sent s n = begun-pick (isHeld (s .books .held .aux)) _ _ refl (fa-sent s n)
+  aux-sent s n = begun-pick (isHeld (auxOf (s .books))) _ _ refl (fa-sent s n)
 
   unmap-sent : (s : Session) (j n : ℕ) → Begun (unmapPlan s j n)
   unfolding unmapPlan
@@ -291,13 +262,8 @@ module _ (i : List ℕ) (len : length i ≡ 4096) where
   close-begun s y top k.UnmapAux = begun-pick (isDone (cmdIn y .result)) _ _ (fa-sent (tookOf s (cmdIn y)) (top .count)) (not-done (tookOf s (cmdIn y)) (top .count))
   close-begun s y top k.UnmapFa = begun-pick (isDone (cmdIn y .result)) _ _ (stopped (tookOf s (cmdIn y)) (top .count)) (not-done (tookOf s (cmdIn y)) (top .count))
   close-begun s y top k.Quiesce = tt
-  close-begun s y top k.Reset = begun-pick (isGood (resetIn y)) _ _ (lent-freed (closesOf s c.Reset (s .books)) (top .count) 0) refl
-  close-begun s y top (k.FreeLent j) = lent-freed s (top .count) j
-  close-begun s y top (k.FreeIcm j) = icm-freed s (top .count) j
-  close-begun s y top k.FreeAux = fa-freed s (top .count)
-  close-begun s y top k.FreeFa = in-freed s (top .count)
-  close-begun s y top k.FreeInbox = out-freed s (top .count)
-  close-begun s y top k.FreeOutbox = given s (top .count)
+  close-begun s y top k.Reset = begun-pick (isGood (resetIn y)) _ _ (freed 82 0 (closesOf s c.Reset (s .books)) (top .count)) refl
+  close-begun s y top (k.Free j) = freed (81 - j) (suc j) s (top .count)
   close-begun s y top k.Release = refl
   close-begun s y top k.Restore = tt
 
@@ -318,9 +284,9 @@ module _ (i : List ℕ) (len : length i ≡ 4096) where
   unfolding lendPlan
   lend-begun s bytes n = outcome (pagesFor bytes) _ _ (λ j. refl) tt
 
-  lend-ended : (s : Session) (y : Made) (n : ℕ) → Begun (lendEnded s y n)
-  lend-ended s (m.Ready y) n = tt
-  lend-ended s (m.Refused y) n = tt
+  lend-ended : (s : Session) (j : ℕ) (y : Made) (n : ℕ) → Begun (lendEnded s j y n)
+  lend-ended s j (m.Ready y) n = tt
+  lend-ended s j (m.Refused y) n = tt
 
   client-undo : (s : Session) (mark j : ℕ) (y : Top) → Begun (cl.undoSend s mark j y)
   client-undo s mark zero y = tt
@@ -332,7 +298,7 @@ module _ (i : List ℕ) (len : length i ≡ 4096) where
 
   client-begun : (s : Session) (y : End) (top : Top) (st : Client) → Begun (clientPlanAt s y top st)
   client-begun s y top (kc.Command x) = tt
-  client-begun s y top kc.Lend = lend-ended s (madeIn y) (top .count)
+  client-begun s y top (kc.Lend j) = lend-ended s j (madeIn y) (top .count)
   client-begun s y top (kc.UndoTo mark j) = begun-pick (isDone (cmdIn y .result)) _ _ (undo-begun (tookOf s (cmdIn y)) mark j top) tt
 
   -- OPENING
@@ -373,7 +339,7 @@ module _ (i : List ℕ) (len : length i ≡ 4096) where
   map-next s x y top = begun-pick (eqb (y .left) 0) _ _ (mapped s x top) (listed s x y (eqb (length i) 4096) (eq-eqb (length i) 4096 len))
 
   area : (s : Session) (x : Area) (y : Made) (top : Top) → Begun (areaPlan s x y top)
-  area s x (m.Ready y) top = map-next (bookkeeps s (enters (s .info) x y (s .books))) x _ top
+  area s x (m.Ready y) top = map-next (bookkeeps s (enters x (s .books))) x _ top
   area s x (m.Refused y) top = failed s _ top
 
   layout : (s : Session) (y : Outcome Layout) (top : Top) → Begun (layoutPlan s y top)
@@ -442,7 +408,7 @@ module _ (i : List ℕ) (len : length i ≡ 4096) where
 
   out-made : (s : Session) (y : Made) (top : Top) → Begun (n.outboxPlan s y top)
   out-made s (m.Ready y) top = refl
-  out-made s (m.Refused y) top = begun-hold (s .books .held .inbox) _ _ (λ d. refl) refl
+  out-made s (m.Refused y) top = freed 82 0 (n.givesUp s (faultOf y) (s .books)) (top .count)
 
   prepare-begun : (s : Session) (y : End) (top : Top) (st : Prepare) → Begun (preparePlanAt s y top st)
   prepare-begun s y top p.Attributes = attr s (attrIn y) top
@@ -451,7 +417,6 @@ module _ (i : List ℕ) (len : length i ≡ 4096) where
   prepare-begun s y top p.Bar = bar s (barIn y) top
   prepare-begun s y top p.Inbox = in-made s (madeIn y) top
   prepare-begun s y top p.Outbox = out-made s (madeIn y) top
-  prepare-begun s y top (p.GiveInbox x) = refl
   prepare-begun s y top p.Look = refl
 
   -- A STEP
@@ -482,8 +447,7 @@ module _ (i : List ℕ) (len : length i ≡ 4096) where
     by-close st x e.Going h = h refl
     by-close st x (e.Ended y) h = close-begun (withWork (was (g.Close st)) x) y top st
 
-    by-stage : (st : Stage) → isRunning st ≡ true → isResting (v .task) ≡ false → Working (stepOf (was st) r bytes i out top .session)
-    unfolding stepOf
+    by-stage : (st : Stage) → isRunning st ≡ true → isResting (v .task) ≡ false → Working (stepTurn (was st) r (workStepOf v r bytes .work) i out top (workStepOf v r bytes .ending) .session)
     by-stage g.Fresh q h = absurd (false≢true q)
     by-stage (g.Open y) q h = absurd (false≢true q)
     by-stage g.Ended q h = absurd (false≢true q)
@@ -493,7 +457,8 @@ module _ (i : List ℕ) (len : length i ≡ 4096) where
     by-stage (g.Close st) q h = by-close st (workStepOf v r bytes .work) (workStepOf v r bytes .ending) (going v r bytes h)
 
   step-busy : (s : Session) (r : Answer) (bytes out : List ℕ) (top : Top) → isRunning (s .stage) ≡ true → isResting (s .work .task) ≡ false → Working (stepOf s r bytes i out top .session)
-  step-busy s r bytes out top q h = by-stage (s .books) (s .info) (s .failure) (s .closing) (s .work) r bytes out top (s .stage) q h
+  unfolding stepOf
+  step-busy s r bytes out top q h = by-stage (bookedOf s r .books) (s .info) (s .failure) (s .closing) (s .work) r bytes out top (s .stage) q h
 
   -- A CALL BEGINS
   call-begun : (s : Session) (y : Call) (top : Top) → Begun (planFor s y top)

@@ -1,14 +1,15 @@
 -- THE THEOREM of demand 3: what is left of each call's course is safe, after every event.
 use Prim.Native.Nat.{ℕ, _+_, _/_, _<_}
+use native.Mathlib.Omega.{arith}
 use mathlib.Core.Bool.{Bool, true, false, _&&_, false≢true}
 use mathlib.Core.List.{List, [], _∷_}
-use mathlib.Core.Logic.{_⊎_, inl, inr, ⊎-elim}
+use mathlib.Core.Logic.{_⊎_, inl, inr, ⊎-elim, _↔_}
 use mathlib.Core.Option.{Option, some, none, Option·some-injective, Option·none-ne-some}
 use mathlib.Core.Path.{_≡_, refl, sym, _∙_, ap, subst}
 use lib.Dec.{eqb, leb}
 use borrow.Author.Tests.{eqb-true, leb-false}
 use lib.ListN.{length}
-use Rattle.fields.specs.Outcome.{pick}
+use Rattle.fields.specs.Outcome.{value, pick}
 use Rattle.pci.specs.Script.{Ask, Reply, shown, replyOf, configRead16, configRead32, configWrite16, configWrite32, read, write, attributes, resource, stall, allocate, mapped, unmap, free, fence}
 use Rattle.pci.specs.Machine.{Right}
 use Rattle.pci.specs.declared.Question.the-variants as q
@@ -24,14 +25,16 @@ use Rattle.work.specs.declared.Task.the-variants as t
 use Rattle.dma.specs.Buffers.{pagesFor}
 use Rattle.dma.specs.declared.Buffer.{Buffer}
 use Rattle.hcr.specs.Words.{isReserved}
-use Rattle.session.specs.Session.{icmAt, wired, broken}
+use Rattle.session.specs.Session.{icmAt, bufferOf, wired, broken, named, INBOX, OUTBOX}
 use Rattle.session.specs.declared.Wire.{Wire}
 use Rattle.session.specs.declared.Gave.{Gave}
 use Rattle.session.specs.declared.Gave.the-variants as gv
 use Rattle.session.specs.declared.Client.{Client}
 use Rattle.session.specs.Course.{Course, ret, ask, Here, here, Lent, Left, left, Rest, atRest, restOf}
 use Rattle.session.specs.declared.Top.{Top}
+use Rattle.session.specs.declared.Slot.{Slot}
 use Rattle.session.specs.declared.Books.{Books}
+use Rattle.card_calls.proofs.Slots.{in-more}
 use Rattle.session.specs.declared.Info.{Info}
 use Rattle.session.specs.declared.Stage.{Stage}
 use Rattle.session.specs.declared.Stage.the-variants as g
@@ -43,8 +46,7 @@ use Rattle.session.specs.declared.Failure.the-variants as f
 use Rattle.session.specs.declared.Closing.{Closing}
 use Rattle.session.specs.declared.Closing.the-variants as c
 use Rattle.session.specs.declared.Session.{Session}
-use Rattle.closing_plan.specs.Closing.{lendsFrom, emptied}
-use Rattle.fw_plan.specs.Calls.{asksOf, outcomeAt, isSession, isLent, answerable, inTime, refusedOf, answerOf, answerIn, stepTurn, stepOf, stepIn}
+use Rattle.fw_plan.specs.Calls.{bookedOf, asksOf, outcomeAt, isSession, isLent, answerable, inTime, refusedOf, answerOf, answerIn, stepTurn, stepOf, stepIn}
 use Rattle.calls_plan.specs.Calls.{isFresh, isOpen, isTime, callable, hasRoom, lentFor, byOpcode, byPages, byList, barred, begunTurn, begunInbox, unless, admitted, callOf, callIn, courseFor}
 use Rattle.calls_plan.specs.declared.Call.{Call}
 use Rattle.calls_plan.specs.declared.Call.the-variants as kn
@@ -55,7 +57,7 @@ use Rattle.fw_plan.specs.declared.Outcome.{Outcome}
 use Rattle.fw_plan.specs.declared.Turn.{Turn}
 use Rattle.fw_plan.proofs.Session.{session-follows}
 use Rattle.card.specs.Card.{Held, Command, Card, Settles, Hold, standing, Host, HostStep, Ours, World, WorldStep, MayUse, Allowed, Meets, IsHeld, Other, kind, effect, lendTo}
-use Rattle.card.specs.Owns.{Owns, Pairwise, Apart, InBooks, InOrder, spotOf, holdOf}
+use Rattle.card.specs.Owns.{Owns, Apart, InBooks, InOrder, spotOf, holdOf}
 use Rattle.card.proofs.Command.{within-stable, within-more, quiet-stable}
 use Rattle.card.proofs.View.{empty-uses, held-before, other-effect}
 use Rattle.card.proofs.Fixed.{host-fixed}
@@ -64,16 +66,16 @@ use Rattle.card.proofs.Owns.{owns-ours}
 use Rattle.card_calls.specs.SafeCourse.{Lendable, SafeCourse}
 use Rattle.card_calls.proofs.Courses.{Fair}
 use Rattle.card_calls.proofs.Closing.{safe-stopping}
-use Rattle.card_calls.proofs.Books.{uses-owed, in-books-left, range-meets}
+use Rattle.card_calls.proofs.Books.{uses-owed, range-meets}
 use Rattle.card_calls.proofs.Commands.{boxes-mailed}
-use Rattle.card_calls.proofs.Idle.{moved-boxes, wired-uses, wired-entries, wired-bound}
+use Rattle.card_calls.proofs.Idle.{moved-boxes, wired-entries, wired-bound}
 use Rattle.card_calls.proofs.Quiet.{safe-quiescing}
 use Rattle.card_calls.proofs.Client.{Given, safe-commanding, safe-lending, safe-undoing-to}
 use Rattle.card_calls.proofs.Calm.{CalmAsk, CalmCourse, calm-step, commanding-calm, lending-calm, undoing-to-calm}
 use Rattle.card_calls.proofs.Opening.{safe-opening}
-use Rattle.demand.specs.Events.{Input, callMake, callAnswer, Event, turn, asked, Stand, Rests, Answers, Happens, SameBox, boxLeft, callsBy, asksBack, isClose, isOpening, tears, beganOnce, beganNow, inboxAfter, gaveBuffer, givenBy, lentBy, lentNow, lendsTo, SizedCall, Step}
+use Rattle.demand.specs.Events.{Input, callMake, callAnswer, Event, turn, asked, Stand, Rests, Answers, Happens, SameBox, boxLeft, callsBy, asksBack, isClose, isOpening, tears, beganOnce, beganNow, inboxAfter, bufferAt, gaveBuffer, givenBy, lentBy, lentNow, lendsTo, SizedCall, Step}
 use Rattle.demand.specs.Demand.{GivesBack, QuestionKept, Inside, rangeOf, Exact, AllBack, AllKept, EndedBy, Never, Closed, Opened, NoQuiesce, hasReturned, Due, Good, Start, Always, Demand}
-use Rattle.demand.proofs.Plans.{IsRest, Starts, Fit, UnlessGiven, Suited, HeldAt, Known, held-map, held-step as plan-held, Both, step-both, Needed, begun-both}
+use Rattle.demand.proofs.Plans.{IsRest, Starts, Fit, Suited, HeldAt, Known, held-map, held-step as plan-held, Both, step-both, Needed, begun-both}
 use Rattle.demand.proofs.Made.{Makes, starts-makes, unasked}
 use Rattle.demand.proofs.Clients.{IsClient, Same, OfClient, step-same, begun-same, lend-gives}
 use Rattle.demand.proofs.Settle.{settled-uses, at, rests-at, course-settled}
@@ -84,8 +86,8 @@ use Rattle.demand.proofs.Alive.{Alive, Busy, counted, step-alive, call-
 use Rattle.opening_plan.specs.Values.{rangeAt}
 use Rattle.card.specs.Known.{Empty, Nothing, Quiet, Within}
 use Rattle.card_calls.specs.Owed.{OwedBy}
-use Rattle.card_calls.specs.Holding.{Boxes, Calm, Mine, Uses, Lies, Idle, lents}
-use Rattle.card_calls.specs.Ranges.{OnRange, AsLaid}
+use Rattle.card_calls.specs.Holding.{InSlot, Boxes, Calm, Mine, Uses, Lies, Idle, lents}
+use Rattle.card_calls.specs.Ranges.{OnRange, InRanges, Accepted, AsLaid}
 use Rattle.card.proofs.Bools.{and-left, and-right}
 use Rattle.demand.proofs.Inbox.{step-length, call-length}
 
@@ -194,7 +196,7 @@ pub record Back (base : ℕ → Option Hold) (k : Host) (w : World) : Type 1 whe
   pub unused : (w .host ≡ k) ⊎ ((d : ℕ) → MayUse (w .card) d → ⊥)
 
 pub record Stays (base : ℕ → Option Hold) (b : Books) (w : World) : Type 1 where
-  pub owns : Owns base (lendsFrom b 0) (w .host)
+  pub owns : Owns base (named b) (w .host)
 
 abbrev pub PostEnd : (ℕ → Option Hold) → Host → Books → World → Closing → Type 1
 PostEnd base k b w c.Clean = Back base k w
@@ -255,11 +257,15 @@ post-settled base k l w d n b z (g.Close y) s x = record { never = x .never }
 abbrev pub Still : Command → Type 0
 Still p = kind (p .opcode) ≡ Other
 
+pub record Maps (b : Books) (g : Held) : Type 1 where
+  pub icm : (x d : ℕ) → g .icm x d ↔ InRanges b x d
+
 pub record Live (n : Info) (b : Books) (w : World) : Type 1 where
   pub fourteen : b .lists .ranges ≡ 14
   pub laid : AsLaid n b 14
-  pub apart : Pairwise Apart (lendsFrom b 0)
-  pub card : Within (Uses b) Still (w .card)
+  pub one : (x y d : ℕ) → InRanges b x d → InRanges b y d → x ≡ y
+  pub apart : (j k : ℕ) → j < k → k < 14 → Apart (rangeOf b j) (rangeOf b k)
+  pub card : Within (Maps b) Still (w .card)
   pub boxes : Boxes b (w .host)
   pub held : (j : ℕ) → j < 14 → HeldBy (rangeOf b j) (w .host)
 
@@ -267,34 +273,54 @@ idle-live : (base : ℕ → Option Hold) (n : Info) (b : Books) (w : World) → 
 idle-live base n b w i s = let o = i .exact s in record {
   fourteen = o .fourteen;
   laid = o .laid;
-  apart = i .owns .apart;
-  card = within-more (Uses b) (Uses b) (Calm b) Still (w .card) (λ h x. x) (λ p x. x .0) (o .card);
+  one = one-page b (i .entries) (i .owns .apart);
+  apart = λ j k l m. apart-at b (i .entries) (i .owns .apart) j k l (subst (λ (z : ℕ). k < z) (sym (o .fourteen)) m);
+  card = within-more (Uses b) (Maps b) (Calm b) Still (w .card) (λ h x. record { icm = x .icm }) (λ p x. x .0) (o .card);
   boxes = i .boxes;
   held = λ j l.
       let l₁ = subst (λ (m : ℕ). j < m) (sym (o .fourteen)) l in
       record {
-        hand = range-each (λ y. w .host .hand (y .handle) ≡ some (holdOf y)) b (i .owns .own) j l₁;
-        deal = range-each (λ y. standing (y .handle) (w .host .log) ≡ some (y .pages)) b (i .owns .dealt) j l₁;
+        hand = range-each (λ y. w .host .hand (y .handle) ≡ some (holdOf y)) b (i .entries) (i .owns .own) j l₁;
+        deal = range-each (λ y. standing (y .handle) (w .host .log) ≡ some (y .pages)) b (i .entries) (i .owns .dealt) j l₁;
       };
 }
 
-live-wired : (n : Info) (b : Books) (y : Wire) (w : World) → Live n b w → Live n (wired b y) w
-live-wired n b y w x = record {
-  fourteen = x .fourteen;
-  laid = x .laid;
-  apart = x .apart;
-  card = within-more (Uses b) (Uses (wired b y)) Still Still (w .card) (wired-uses b y) (λ p z. z) (x .card);
-  boxes = moved-boxes b y (w .host) (w .host) refl (x .boxes);
-  held = x .held;
-}
-
--- the same books but for the command register
+-- the same ranges and mailboxes
 live-same : (s u : Session) (w : World) → Same s u → Live (s .info) (s .books) w → Live (u .info) (u .books) w
-live-same s u w e x =
-    subst (λ (n : Info). Live n (u .books) w) (sym (e .info)) (subst (λ (b : Books). Live (s .info) b w) (sym (e .books)) (live-wired (s .info) (s .books) (u .books .wire) w x))
+live-same s u w e x = record {
+  fourteen = e .ranges ∙ x .fourteen;
+  laid = (
+    subst Accepted (sym (e .info)) (x .laid .0),
+    λ k h. subst (λ (n : Info). (icmAt (u .books .lists .slots) k .virt ≡ rangeAt n k .virt) × (pagesFor (rangeAt n k .bytes) ≡ value (icmAt (u .books .lists .slots) k .pages))) (sym (e .info))
+        (subst (λ (y : Slot). (y .virt ≡ rangeAt (s .info) k .virt) × (pagesFor (rangeAt (s .info) k .bytes) ≡ value (y .pages))) (sym (at-range k)) (x .laid .1 k h)),
+  );
+  one = λ a b d p q. x .one a b d (from a d p) (from b d q);
+  apart = λ j k p q. subst (λ (y : Slot). Apart (bufferOf y) (rangeOf (u .books) k)) (sym (at-range j)) (subst (λ (y : Slot). Apart (rangeOf (s .books) j) (bufferOf y)) (sym (at-range k)) (x .apart j k p q));
+  card = within-more (Maps (s .books)) (Maps (u .books)) Still Still (w .card) (λ h m. record { icm = λ y d. (λ z. to y d (m .icm y d .0 z), λ z. m .icm y d .1 (from y d z)) }) (λ p z. z) (x .card);
+  boxes = record {
+    inbox = x .boxes .inbox;
+    outbox = x .boxes .outbox;
+    inHeld = subst (λ (y : Slot). InSlot y (x .boxes .inbox)) (sym (e .slots INBOX (omega arith))) (x .boxes .inHeld);
+    outHeld = subst (λ (y : Slot). InSlot y (x .boxes .outbox)) (sym (e .slots OUTBOX (omega arith))) (x .boxes .outHeld);
+    inAt = x .boxes .inAt;
+    outAt = x .boxes .outAt;
+    inLess = x .boxes .inLess;
+    outLess = x .boxes .outLess;
+  };
+  held = λ j l. subst (λ (y : Slot). HeldBy (bufferOf y) (w .host)) (sym (at-range j)) (x .held j l);
+}
+  where
+    at-range : (k : ℕ) → icmAt (u .books .lists .slots) k ≡ icmAt (s .books .lists .slots) k
+    at-range k = e .slots (64 + k) (omega arith)
+
+    to : (y d : ℕ) → InRanges (s .books) y d → InRanges (u .books) y d
+    to y d (k, l, z) = (k, subst (λ (m : ℕ). k < m) (sym (e .ranges)) l, subst (λ (a : Slot). OnRange a y d) (sym (at-range k)) z)
+
+    from : (y d : ℕ) → InRanges (u .books) y d → InRanges (s .books) y d
+    from y d (k, l, z) = (k, subst (λ (m : ℕ). k < m) (e .ranges) l, subst (λ (a : Slot). OnRange a y d) (at-range k) z)
 
 live-settled : (n : Info) (b : Books) (w : World) (d : Card) → Settles (w .card) d → Live n b w → Live n b (at w d)
-live-settled n b w d s x = record { fourteen = x .fourteen; laid = x .laid; apart = x .apart; card = within-stable (Uses b) Still (w .card) d s (x .card); boxes = x .boxes; held = x .held }
+live-settled n b w d s x = record { fourteen = x .fourteen; laid = x .laid; one = x .one; apart = x .apart; card = within-stable (Maps b) Still (w .card) d s (x .card); boxes = x .boxes; held = x .held }
 
 live-step : (n : Info) (b : Books) (w v : World) (q : Ask) (r : Reply q) (i : List ℕ) → Allowed i w q → CalmAsk q → WorldStep w q r v → Live n b w → Live n b v
 live-step n b w v q r i al calm st x =
@@ -302,8 +328,9 @@ live-step n b w v q r i al calm st x =
     record {
       fourteen = x .fourteen;
       laid = x .laid;
+      one = x .one;
       apart = x .apart;
-      card = calm-step (Uses b) q r w v calm st (x .card);
+      card = calm-step (Maps b) q r w v calm st (x .card);
       boxes = record {
         inbox = x .boxes .inbox;
         outbox = x .boxes .outbox;
@@ -316,7 +343,7 @@ live-step n b w v q r i al calm st x =
       };
       -- the card uses the first page of each range
       held = λ j l.
-          let e = icmAt (b .lists .icm) j in
+          let e = icmAt (b .lists .slots) j in
           let l₁ : j < b .lists .ranges = subst (λ (m : ℕ). j < m) (sym (x .fourteen)) l in
           let p : 0 < e .pages = some-page (rangeAt n j .bytes) (e .pages) (x .laid .1 j l .1) in
           let on : OnRange e (e .virt / 4096 + 0) (e .dev / 4096 + 0) = (0, p, refl, refl) in
@@ -346,14 +373,14 @@ given-lent base n b w y lies x = record {
     more : Held
     more = lendTo (Meets (spotOf y)) (w .card) .held
 
-    held : (h : Held) → Lies b h → (d : ℕ) → IsHeld (lendTo (Meets (spotOf y)) (record { held = h; pending = w .card .pending; last = w .card .last; status = w .card .status; registers = w .card .registers; mail = w .card .mail }) .held) d → InBooks (lendsFrom b 0) d
+    held : (h : Held) → Lies b h → (d : ℕ) → IsHeld (lendTo (Meets (spotOf y)) (record { held = h; pending = w .card .pending; last = w .card .last; status = w .card .status; registers = w .card .registers; mail = w .card .mail }) .held) d → InBooks (named b) d
     held h l d (inl z) = l .within d (inl z)
     held h l d (inr (inl z)) = l .within d (inr (inl z))
     held h l d (inr (inr (inl z))) = l .within d (inr (inr (inl z)))
     held h l d (inr (inr (inr (inl z)))) = l .within d (inr (inr (inr z)))
-    held h l d (inr (inr (inr (inr z)))) = in-books-left (lents b) _ d (lies d z)
+    held h l d (inr (inr (inr (inr z)))) = in-more 64 82 0 (b .lists .slots) d (omega arith) (lies d z)
 
-    later : (p : Command) (e : w .card .pending ≡ some p) (d : ℕ) → IsHeld (effect p more) d → InBooks (lendsFrom b 0) d
+    later : (p : Command) (e : w .card .pending ≡ some p) (d : ℕ) → IsHeld (effect p more) d → InBooks (named b) d
     later p e d z = ⊎-elim (λ u. held (w .card .held) (x .bound .now) d u) (λ u. x .bound .then p e .0 d (inr (inr u))) (held-before (kind (p .opcode)) p more d z)
 
     uses : Uses b (w .card .held) → Uses b more
@@ -436,7 +463,7 @@ in-wrong false r y s w p = refl
 pub lent-length : (i o : List ℕ) (u : Top) → isLent i o u ≡ true → length i ≡ 4096
 lent-length i o u e = eqb-true (length i) 4096 (and-left (eqb (length i) 4096) _ e)
 
-fresh-stage : (st : Stage) → isFresh st ≡ true → st ≡ g.Fresh
+pub fresh-stage : (st : Stage) → isFresh st ≡ true → st ≡ g.Fresh
 fresh-stage g.Fresh e = refl
 fresh-stage (g.Open y) e = absurd (false≢true e)
 fresh-stage g.Ended e = absurd (false≢true e)
@@ -493,37 +520,37 @@ turn-taken s a w i o u (e.Ended z) = refl
 
 pub step-taken : (s : Session) (a : Answer) (r i o : List ℕ) (u : Top) → stepOf s a r i o u .refusal ≡ f.Nothing
 unfolding stepOf
-step-taken s a r i o u = turn-taken s a (workStepOf (s .work) a r .work) i o u (workStepOf (s .work) a r .ending)
+step-taken s a r i o u = turn-taken (bookedOf s a) a (workStepOf (s .work) a r .work) i o u (workStepOf (s .work) a r .ending)
 
 abbrev event : Input → List ℕ → List ℕ → Top → Event
 event a i o u = record { call = a; inbox = i; outbox = o; undo = u }
 
-lent-host : (b : Option Buffer) (w : World) → lendsTo b w .host ≡ w .host
+pub lent-host : (b : Option Buffer) (w : World) → lendsTo b w .host ≡ w .host
 lent-host none w = refl
 lent-host (some y) w = refl
 
 -- a buffer was given: the session is open and says so
-given-open : (y : Failure) (z : Closing) (st : Stage) (x : Buffer) → givenBy (outcomeAt y z st) ≡ some x → st ≡ g.Open (gv.Lent x)
-given-open y z g.Fresh x e = absurd (Option·none-ne-some x e)
-given-open y z (g.Open v) x e = ap g.Open (gave v e)
+given-open : (b : Books) (y : Failure) (z : Closing) (st : Stage) (x : Buffer) → givenBy b (outcomeAt y z st) ≡ some x → (i : ℕ) × (st ≡ g.Open (gv.Lent i)) × (bufferAt b i ≡ x)
+given-open b y z g.Fresh x e = absurd (Option·none-ne-some x e)
+given-open b y z (g.Open v) x e = gave v e
   where
-    gave : (v : Gave) → gaveBuffer v ≡ some x → v ≡ gv.Lent x
+    gave : (v : Gave) → gaveBuffer b v ≡ some x → (i : ℕ) × (g.Open v ≡ g.Open (gv.Lent i)) × (bufferAt b i ≡ x)
     gave gv.Nothing e = absurd (Option·none-ne-some x e)
     gave (gv.Command v us) e = absurd (Option·none-ne-some x e)
-    gave (gv.Lent b) e = ap gv.Lent (Option·some-injective b x e)
+    gave (gv.Lent i) e = (i, refl, Option·some-injective (bufferAt b i) x e)
     gave (gv.Failed v) e = absurd (Option·none-ne-some x e)
-given-open f.Nothing z g.Ended x e = absurd (Option·none-ne-some x e)
-given-open (f.By w) z g.Ended x e = absurd (Option·none-ne-some x e)
-given-open y z (g.Prepare v) x e = absurd (Option·none-ne-some x e)
-given-open y z (g.Boot v) x e = absurd (Option·none-ne-some x e)
-given-open y z (g.Client v) x e = absurd (Option·none-ne-some x e)
-given-open y z (g.Close v) x e = absurd (Option·none-ne-some x e)
+given-open b f.Nothing z g.Ended x e = absurd (Option·none-ne-some x e)
+given-open b (f.By w) z g.Ended x e = absurd (Option·none-ne-some x e)
+given-open b y z (g.Prepare v) x e = absurd (Option·none-ne-some x e)
+given-open b y z (g.Boot v) x e = absurd (Option·none-ne-some x e)
+given-open b y z (g.Client v) x e = absurd (Option·none-ne-some x e)
+given-open b y z (g.Close v) x e = absurd (Option·none-ne-some x e)
 
-pub lent-given : (l : List Call) (s : Session) (y : Buffer) → lentBy l s ≡ some y → s .stage ≡ g.Open (gv.Lent y)
+pub lent-given : (l : List Call) (s : Session) (y : Buffer) → lentBy l s ≡ some y → (i : ℕ) × (s .stage ≡ g.Open (gv.Lent i)) × (bufferAt (s .books) i ≡ y)
 lent-given [] s y e = absurd (Option·none-ne-some y e)
 lent-given (kn.Open ∷ l) s y e = absurd (Option·none-ne-some y e)
 lent-given (kn.Command v ∷ l) s y e = absurd (Option·none-ne-some y e)
-lent-given (kn.Lend bytes ∷ l) s y e = given-open (s .failure) (s .closing) (s .stage) y e
+lent-given (kn.Lend bytes ∷ l) s y e = given-open (s .books) (s .failure) (s .closing) (s .stage) y e
 lent-given (kn.UndoTo mark r ∷ l) s y e = absurd (Option·none-ne-some y e)
 lent-given (kn.Quiesce ∷ l) s y e = absurd (Option·none-ne-some y e)
 lent-given (kn.Close ∷ l) s y e = absurd (Option·none-ne-some y e)
@@ -534,7 +561,7 @@ not-open st y h e = subst IsClient e h
 
 client-lends : (l : List Call) (s : Session) → IsClient (s .stage) → (z : Option Buffer) → lentBy l s ≡ z → lentBy l s ≡ none
 client-lends l s h none e = e
-client-lends l s h (some y) e = absurd (not-open (s .stage) (gv.Lent y) h (lent-given l s y e))
+client-lends l s h (some y) e = let z = lent-given l s y e in absurd (not-open (s .stage) (gv.Lent (z .0)) h (z .1))
 
 -- and a call that begins has lent nothing yet
 pub begun-lends : (d : Call) (l : List Call) (s : Session) (input i : List ℕ) (u : Top) → lentBy (d ∷ l) (begunTurn s d input i u .session) ≡ none
@@ -546,22 +573,22 @@ begun-lends kn.Quiesce l s input i u = refl
 begun-lends kn.Close l s input i u = refl
 
 -- and then what is lent leaves the session as it is
-lent-post : (base : ℕ → Option Hold) (k : Host) (l : List Call) (s : Session) (h : Here) (w : World) (y : Buffer) → s .stage ≡ g.Open (gv.Lent y) → SafeCourse w (courseOf s h) (Post base k l)
-    → SafeCourse (lendsTo (some y) w) (courseOf s h) (Post base k l) × ((d : ℕ) → Meets (spotOf y) d → Ours (w .host) d)
-lent-post base k l s h w y e x = by (s .stage) e x
+lent-post : (base : ℕ → Option Hold) (k : Host) (l : List Call) (s : Session) (h : Here) (w : World) (i : ℕ) → s .stage ≡ g.Open (gv.Lent i) → SafeCourse w (courseOf s h) (Post base k l)
+    → SafeCourse (lendsTo (some (bufferAt (s .books) i)) w) (courseOf s h) (Post base k l) × ((d : ℕ) → Meets (spotOf (bufferAt (s .books) i)) d → Ours (w .host) d)
+lent-post base k l s h w i e x = by (s .stage) e x
   where
-    posted : (st : Stage) → st ≡ g.Open (gv.Lent y) → PostAt base k l w (s .info) (s .books) (s .closing) st → PostAt base k l (lendsTo (some y) w) (s .info) (s .books) (s .closing) st × ((d : ℕ) → Meets (spotOf y) d → Ours (w .host) d)
+    posted : (st : Stage) → st ≡ g.Open (gv.Lent i) → PostAt base k l w (s .info) (s .books) (s .closing) st → PostAt base k l (lendsTo (some (bufferAt (s .books) i)) w) (s .info) (s .books) (s .closing) st × ((d : ℕ) → Meets (spotOf (bufferAt (s .books) i)) d → Ours (w .host) d)
     posted st d p =
-        subst (λ (z : Stage). PostAt base k l w (s .info) (s .books) (s .closing) z → PostAt base k l (lendsTo (some y) w) (s .info) (s .books) (s .closing) z × ((d : ℕ) → Meets (spotOf y) d → Ours (w .host) d)) (sym d)
+        subst (λ (z : Stage). PostAt base k l w (s .info) (s .books) (s .closing) z → PostAt base k l (lendsTo (some (bufferAt (s .books) i)) w) (s .info) (s .books) (s .closing) z × ((d : ℕ) → Meets (spotOf (bufferAt (s .books) i)) d → Ours (w .host) d)) (sym d)
         (λ q. (
-          (given-lent base (s .info) (s .books) w y (q .1) (q .0), q .1, q .2),
-          λ d m. owns-ours (lendsFrom (s .books) 0) (w .host) (q .0 .owns .own) (q .0 .owns .dealt) d (in-books-left (lents (s .books)) _ d (q .1 d m)),
+          (given-lent base (s .info) (s .books) w (bufferAt (s .books) i) (q .1) (q .0), q .1, q .2),
+          λ d m. owns-ours (named (s .books)) (w .host) (q .0 .owns .own) (q .0 .owns .dealt) d (in-more 64 82 0 (s .books .lists .slots) d (omega arith) (q .1 d m)),
         )) p
 
-    by : (st : Stage) → st ≡ g.Open (gv.Lent y) → SafeCourse w (courseAt st s h) (Post base k l)
-        → SafeCourse (lendsTo (some y) w) (courseAt st s h) (Post base k l) × ((d : ℕ) → Meets (spotOf y) d → Ours (w .host) d)
+    by : (st : Stage) → st ≡ g.Open (gv.Lent i) → SafeCourse w (courseAt st s h) (Post base k l)
+        → SafeCourse (lendsTo (some (bufferAt (s .books) i)) w) (courseAt st s h) (Post base k l) × ((d : ℕ) → Meets (spotOf (bufferAt (s .books) i)) d → Ours (w .host) d)
     by st d x =
-        subst (λ (z : Stage). SafeCourse w (courseAt z s h) (Post base k l) → SafeCourse (lendsTo (some y) w) (courseAt z s h) (Post base k l) × ((d : ℕ) → Meets (spotOf y) d → Ours (w .host) d)) (sym d)
+        subst (λ (z : Stage). SafeCourse w (courseAt z s h) (Post base k l) → SafeCourse (lendsTo (some (bufferAt (s .books) i)) w) (courseAt z s h) (Post base k l) × ((d : ℕ) → Meets (spotOf (bufferAt (s .books) i)) d → Ours (w .host) d)) (sym d)
         (λ p. posted (s .stage) e p) x
 
 lent-inside : (w : World) (y : Buffer) → ((d : ℕ) → Meets (spotOf y) d → Ours (w .host) d) → Inside w → Inside (lendsTo (some y) w)
@@ -621,7 +648,7 @@ module _ (k : Host) (log : k .log ≡ []) (in-none : k .inbox ≡ none) (out-non
     back q n y c.Reset b v e o s = (record { owns = o; unused = inr (empty-uses (v .card) s) }, q)
     back q n y c.Kept b v e o s = absurd (e refl)
 
-    kept : Last Ends l → (n : Info) (y : Failure) (b : Books) (v : World) → Owns base (lendsFrom b 0) (v .host) → Post base k l v (atRest g.Ended b n y c.Kept)
+    kept : Last Ends l → (n : Info) (y : Failure) (b : Books) (v : World) → Owns base (named b) (v .host) → Post base k l v (atRest g.Ended b n y c.Kept)
     kept q n y b v o = (record { owns = o }, q)
 
     opened : Last EndsOpen l → (n : Info) (b : Books) (v : World) → Idle base n b v → Post base k l v (atRest (g.Open gv.Nothing) b n f.Nothing c.Clean)
@@ -709,10 +736,10 @@ module _ (k : Host) (log : k .log ≡ []) (in-none : k .inbox ≡ none) (out-non
     laid = o .laid;
     icm = o .card .now .icm;
     single = λ y d e a b. single-page (x .session .info) (x .session .books) (o .fourteen) (o .laid) y d e (o .card .now .icm y d .0 a) (o .card .now .icm y e .0 b);
-    one = λ y z d a b. one-page (x .session .books) (o .apart) y z d (o .card .now .icm y d .0 a) (o .card .now .icm z d .0 b);
+    one = λ y z d a b. o .one y z d (o .card .now .icm y d .0 a) (o .card .now .icm z d .0 b);
     handed = λ j l. o .held j l .hand;
     stands = λ j l. o .held j l .deal;
-    apart = λ i j l m. apart-at (x .session .books) (o .apart) i j l (subst (λ (z : ℕ). j < z) (sym (o .fourteen)) m);
+    apart = o .apart;
     boxes = o .boxes;
   }
 
@@ -945,7 +972,7 @@ module _ (k : Host) (log : k .log ≡ []) (in-none : k .inbox ≡ none) (out-non
         quieted : (z : Wire) (a : World) → z .silent ≡ true → a .host ≡ v .host → Within (Lies (x .session .books)) (Mine (x .session .books)) (a .card) → Idle base (x .session .info) (x .session .books) v
             → Idle base (x .session .info) (wired (x .session .books) (broken z)) a
         quieted z a p e m w = record {
-          owns = subst (Owns base (lendsFrom (x .session .books) 0)) (sym e) (w .owns);
+          owns = subst (Owns base (named (x .session .books))) (sym e) (w .owns);
           boxes = moved-boxes (x .session .books) (broken z) (v .host) (a .host) e (w .boxes);
           entries = wired-entries (x .session .books) (broken z) (w .entries);
           bound = wired-bound (x .session .books) (broken z) (a .card) m;
@@ -955,7 +982,7 @@ module _ (k : Host) (log : k .log ≡ []) (in-none : k .inbox ≡ none) (out-non
     call-safe kn.Close y t b s =
         let w = idle-now t in
         safe-stopping (x .session .info) f.Nothing (Post base k (kn.Close ∷ x .calls)) base (v .host) (boxes-mailed base (x .session .books) (v .host) (w .boxes) (w .owns))
-        (λ z d a e s r. back (kn.Close ∷ x .calls) tt (x .session .info) f.Nothing z (emptied d) a e s r) (λ d a s r. kept (kn.Close ∷ x .calls) tt (x .session .info) f.Nothing d a s)
+        (λ z d a e s r. back (kn.Close ∷ x .calls) tt (x .session .info) f.Nothing z d a e s r) (λ d a s r. kept (kn.Close ∷ x .calls) tt (x .session .info) f.Nothing d a s)
         (x .session .books) (here n o u) v (w .entries .addressed) q refl (w .owns) (λ e. loud w e (x .session .books .wire .silent) refl)
         (λ e. let o₁ = w .exact (loud w e (x .session .books .wire .silent) refl) in (
           within-more (Uses (x .session .books)) (OwedBy (x .session .books)) (Calm (x .session .books)) (λ p. Unit {0}) (v .card) (λ h z. uses-owed (x .session .books) h (w .entries) (o₁ .started) z) (λ p z. tt) (o₁ .card),
@@ -1137,16 +1164,6 @@ module _ (k : Host) (log : k .log ≡ []) (in-none : k .inbox ≡ none) (out-non
     still-began : (p : Ask) → Begins p → asksBack (x .world .host) p ≡ false → y .began ≡ x .began
     still-began p b e = b ∙ ap (λ (t : Bool). beganOnce t (x .world .host) (x .began)) (never-tears (x .calls) p (x .world .host) e) ∙ once-more (x .world .host) (x .began)
 
-    unless-map : (z : Prepare) (A B : Type 0) → (A → B) → UnlessGiven z A → UnlessGiven z B
-    unless-map p.Attributes A B h q = h q
-    unless-map p.Claim A B h q = h q
-    unless-map p.Reset A B h q = h q
-    unless-map p.Bar A B h q = h q
-    unless-map p.Inbox A B h q = h q
-    unless-map p.Outbox A B h q = h q
-    unless-map (p.GiveInbox v) A B h q = tt
-    unless-map p.Look A B h q = h q
-
     opens-on : (p : Ask) (r : Reply p) (v : World) → asked (asksOf (x .session)) n ≡ some p → replyOf p a res ≡ some r → WorldStep (x .world) p r v → Begins p
         → y .world .host ≡ v .host → Opens (x .began) (x .world .host) (x .session .work .task) → NextOpens
     opens-on p r v e d st b w o =
@@ -1158,7 +1175,7 @@ module _ (k : Host) (log : k .log ≡ []) (in-none : k .inbox ≡ none) (out-non
     known p r v e d st b w g.Fresh s = idle x i n p e (fit x i g.Fresh s)
     known p r v e d st b w (g.Open z) s = idle x i n p e (fit x i (g.Open z) s)
     known p r v e d st b w g.Ended s = idle x i n p e (fit x i g.Ended s)
-    known p r v e d st b w (g.Prepare z) s = unless-map z (Opens (x .began) (x .world .host) (x .session .work .task)) NextOpens (opens-on p r v e d st b w) (fit x i (g.Prepare z) s .2)
+    known p r v e d st b w (g.Prepare z) s = opens-on p r v e d st b w (fit x i (g.Prepare z) s .2)
     known p r v e d st b w (g.Boot z) s = opens-on p r v e d st b w (fit x i (g.Boot z) s .2)
     known p r v e d st b w (g.Client z) s = tt
     known p r v e d st b w (g.Close z) s =
@@ -1253,8 +1270,10 @@ module _ (k : Host) (log : k .log ≡ []) (in-none : k .inbox ≡ none) (out-non
             by : (z : Option Buffer) → lentBy (x .calls) next ≡ z → SafeCourse (lendsTo z (st .between)) (courseOf next there₁) (Post base k (x .calls)) × Inside (lendsTo z (st .between))
             by none e = (done, in₁)
             by (some c₁) e =
-                let z = lent-post base k (x .calls) next there₁ (st .between) c₁ (lent-given (x .calls) next c₁ e) done in
-                (z .0, lent-inside (st .between) c₁ (z .1) in₁)
+                let g₁ = lent-given (x .calls) next c₁ e in
+                let z = lent-post base k (x .calls) next there₁ (st .between) (g₁ .0) (g₁ .1) done in
+                subst (λ (v : Buffer). SafeCourse (lendsTo (some v) (st .between)) (courseOf next there₁) (Post base k (x .calls)) × Inside (lendsTo (some v) (st .between))) (g₁ .2)
+                (z .0, lent-inside (st .between) (bufferAt (next .books) (g₁ .0)) (z .1) in₁)
 
         began : Begins (world .0)
         began =

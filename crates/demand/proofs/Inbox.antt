@@ -20,7 +20,7 @@ use Rattle.session.specs.declared.Fill.{Fill}
 use Rattle.session.specs.declared.Fill.the-variants as w
 use Rattle.session.specs.declared.Session.{Session}
 use Rattle.opening_plan.specs.Values.{layoutIn}
-use Rattle.fw_plan.specs.Calls.{planOf, withWork, filledIn, wipedIn, wipeOf, stepBoxIn, stepIn}
+use Rattle.fw_plan.specs.Calls.{bookedOf, planOf, withWork, filledIn, wipedIn, wipeOf, stepBoxIn, stepIn}
 use Rattle.calls_plan.specs.Calls.{readyIn, planFor, begunInbox}
 use Rattle.calls_plan.specs.declared.Call.{Call}
 use Rattle.calls_plan.proofs.Begins.{length-ready}
@@ -51,7 +51,7 @@ box-length s a y i o top (e.Ended z) l = filled-length (planOf (withWork s y) z 
 
 pub step-length : (s : Session) (a : Answer) (r i o : List ℕ) (top : Top) → length i ≡ 4096 → length (stepIn s a r i o top) ≡ 4096
 unfolding stepIn
-step-length s a r i o top l = box-length s a (workStepOf (s .work) a r .work) i o top (workStepOf (s .work) a r .ending) l
+step-length s a r i o top l = box-length (bookedOf s a) a (workStepOf (s .work) a r .work) i o top (workStepOf (s .work) a r .ending) l
 
 pub call-length : (s : Session) (c : Call) (y i : List ℕ) (top : Top) → length i ≡ 4096 → length (begunInbox s c y i top) ≡ 4096
 unfolding begunInbox

@@ -8,4 +8,6 @@ pub mod Clients
 pub mod Alive
 pub mod Inside
 pub mod Demand
+pub mod Fits
+pub mod Books
 pub mod Refuses

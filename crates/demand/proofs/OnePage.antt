@@ -4,13 +4,12 @@ use native.Mathlib.Nat.{max-le, le-max-left}
 use native.Mathlib.Omega.{arith}
 use mathlib.Core.Bool.{Bool, true, false}
 use mathlib.Core.List.{List, [], _∷_, _++_}
-use mathlib.Core.Logic.{⊎-elim}
+use mathlib.Core.Logic.{_⊎_, inl, inr, ⊎-elim}
 use mathlib.Core.Path.{_≡_, refl, sym, subst}
 use lib.Dec.{eqb, ltb, leb}
 use lib.ListN.{length, getD}
 use Rattle.fields.specs.Outcome.{Outcome, value, refused, pick}
 use Rattle.dma.specs.Buffers.{pagesFor}
-use Rattle.dma.specs.declared.Buffer.{Buffer}
 use Rattle.layout.specs.declared.Range.{Range}
 use Rattle.layout_laws.specs.Good.{GoodRange, GoodRanges}
 use Rattle.layout_laws.specs.Good as gd
@@ -18,74 +17,67 @@ use Rattle.layout_laws.proofs.Profiles.{profile-good}
 use Rattle.opening_plan.specs.Values.{layoutIn, rangeAt, noRange}
 use Rattle.session.specs.declared.Info.{Info}
 use borrow.Author.Tests.{eqb-true, eqb-false, ltb-true, ltb-false}
-use Rattle.dma.specs.Pages.{table}
-use Rattle.session.specs.Session.{icmAt, bufferAt, bufferOf}
-use Rattle.session.specs.declared.Icm.{Icm}
+use Rattle.session.specs.Session.{icmAt, slotAt, bufferOf, isHeld, inSlot, named, namedFrom}
+use Rattle.session.specs.declared.Slot.{Slot}
+use Rattle.dma.specs.declared.Buffer.{Buffer}
 use Rattle.session.specs.declared.Books.{Books}
-use Rattle.closing_plan.specs.Closing.{areas, rangesFrom, lendsFrom}
 use Rattle.card.specs.Owns.{Each, Pairwise, Apart}
 use Rattle.card_calls.specs.Ranges.{OnRange, InRanges, AsLaid}
+use Rattle.card.proofs.Owns.{In}
+use Rattle.card_calls.specs.Holding.{Entries}
 use Rattle.card_calls.proofs.Books.{range-meets}
+use Rattle.card_calls.proofs.Slots.{in-named}
 use Rattle.demand.specs.Demand.{rangeOf}
 
 pairwise-behind : {A : Type 0} (R : A → A → Type 0) (xs ys : List A) → Pairwise R (xs ++ ys) → Pairwise R ys
 pairwise-behind R [] ys h = h
 pairwise-behind R (x ∷ xs) ys h = pairwise-behind R xs ys (h .1)
 
-each-table : {A : Type 0} (P : A → Type 0) (f : ℕ → A) (ys : List A) (i n k : ℕ) → Each P (table f i n ++ ys) → k < n → P (f (i + k))
-unfolding table
-each-table P f ys i zero k h l = absurd (let z : ⊥ = omega (arith, l) in z)
-each-table P f ys i (suc n) zero h l = subst (λ (m : ℕ). P (f m)) (let e : i ≡ i + 0 = omega arith in e) (h .0)
-each-table P f ys i (suc n) (suc k) h l = subst (λ (m : ℕ). P (f m)) (let e : suc i + k ≡ i + suc k = omega arith in e) (each-table P f ys (suc i) n k (h .1) (omega (arith, l)))
+each-in : {A : Type 0} (P : A → Type 0) (xs : List A) (a : A) → Each P xs → In a xs → P a
+each-in P (x ∷ xs) a h (inl e) = subst P (sym e) (h .0)
+each-in P (x ∷ xs) a h (inr e) = each-in P xs a (h .1) e
 
--- two of a table, the first before the second
-pairwise-table : {A : Type 0} (R : A → A → Type 0) (f : ℕ → A) (ys : List A) (i n k j : ℕ) → Pairwise R (table f i n ++ ys) → k < j → j < n → R (f (i + k)) (f (i + j))
-unfolding table
-pairwise-table R f ys i zero k j h l g = absurd (let z : ⊥ = omega (arith, g) in z)
-pairwise-table R f ys i (suc n) zero zero h l g = absurd (let z : ⊥ = omega (arith, l) in z)
-pairwise-table R f ys i (suc n) zero (suc j) h l g =
-    subst (λ (m : ℕ). R (f m) (f (i + suc j))) (let e : i ≡ i + 0 = omega arith in e)
-    (subst (λ (m : ℕ). R (f i) (f m)) (let e : suc i + j ≡ i + suc j = omega arith in e) (each-table (R (f i)) f ys (suc i) n j (h .0) (omega (arith, g))))
-pairwise-table R f ys i (suc n) (suc k) zero h l g = absurd (let z : ⊥ = omega (arith, l) in z)
-pairwise-table R f ys i (suc n) (suc k) (suc j) h l g =
-    subst (λ (m : ℕ). R (f m) (f (i + suc j))) (let e : suc i + k ≡ i + suc k = omega arith in e)
-    (subst (λ (m : ℕ). R (f (suc i + k)) (f m)) (let e : suc i + j ≡ i + suc j = omega arith in e) (pairwise-table R f ys (suc i) n k j (h .1) (omega (arith, l)) (omega (arith, g))))
-
-each-behind : {A : Type 0} (P : A → Type 0) (xs ys : List A) → Each P (xs ++ ys) → Each P ys
-each-behind P [] ys h = h
-each-behind P (x ∷ xs) ys h = each-behind P xs ys (h .1)
+-- two slots that have buffers, the first before the second
+apart-in : (R : Buffer → Buffer → Type 0) (m i : ℕ) (l : List Slot) (k j : ℕ) → Pairwise R (namedFrom m i l) → i ≤ k → k < j → j < i + m → isHeld (slotAt l k) ≡ true → isHeld (slotAt l j) ≡ true
+    → R (bufferOf (slotAt l k)) (bufferOf (slotAt l j))
+unfolding namedFrom
+apart-in R zero i l k j h a b c p q = absurd (let z : ⊥ = omega (arith, a, b, c) in z)
+apart-in R (suc m) i l k j h a b c p q = by-place (eqb i k) refl (λ x y. apart-in R m (suc i) l k j x y b (omega (arith, c)) p q)
+  where
+    by-place : (t : Bool) → eqb i k ≡ t → (Pairwise R (namedFrom m (suc i) l) → suc i ≤ k → R (bufferOf (slotAt l k)) (bufferOf (slotAt l j))) → R (bufferOf (slotAt l k)) (bufferOf (slotAt l j))
+    by-place true t again =
+        let e = eqb-true i k t in
+        let here : Pairwise R ((bufferOf (slotAt l k) ∷ []) ++ namedFrom m (suc i) l) =
+        subst (λ (z : Bool). Pairwise R (pick z (bufferOf (slotAt l k) ∷ []) [] ++ namedFrom m (suc i) l)) p (subst (λ (z : ℕ). Pairwise R (inSlot (slotAt l z) ++ namedFrom m (suc i) l)) e h) in
+        each-in (R (bufferOf (slotAt l k))) (namedFrom m (suc i) l) (bufferOf (slotAt l j)) (here .0) (in-named m (suc i) l j (omega (arith, b, e)) (omega (arith, c)) q)
+    by-place false t again =
+        let e = eqb-false i k t in again (pairwise-behind R (inSlot (slotAt l i)) (namedFrom m (suc i) l) h) (omega (arith, a, e))
 
 -- what is so of each buffer is so of each range's
-pub range-each : (P : Buffer → Type 0) (b : Books) → Each P (lendsFrom b 0) → (k : ℕ) → k < b .lists .ranges → P (rangeOf b k)
-range-each P b h k l =
-    subst (λ (m : ℕ). P (rangeOf b m)) (let e : 0 + k ≡ k = omega arith in e)
-    (each-table P (λ m. rangeOf b m) (areas b) 0 (b .lists .ranges - 0) k
-    (each-behind P (table (λ m. bufferAt (b .lists .lent) m) 0 (b .lists .lends - 0)) (rangesFrom b 0) h) (omega (arith, l)))
+pub range-each : (P : Buffer → Type 0) (b : Books) → Entries b → Each P (named b) → (k : ℕ) → k < b .lists .ranges → P (rangeOf b k)
+range-each P b i h k l = let f = i .few in each-in P (named b) (rangeOf b k) h (in-named 82 0 (b .lists .slots) (64 + k) (omega arith) (omega (arith, l, f)) (i .held k l))
 
-module _ (b : Books) (far : Pairwise Apart (lendsFrom b 0)) where
-  pub apart-at : (k j : ℕ) → k < j → j < b .lists .ranges → Apart (bufferOf (icmAt (b .lists .icm) k)) (bufferOf (icmAt (b .lists .icm) j))
+module _ (b : Books) (i : Entries b) (far : Pairwise Apart (named b)) where
+  pub apart-at : (k j : ℕ) → k < j → j < b .lists .ranges → Apart (bufferOf (icmAt (b .lists .slots) k)) (bufferOf (icmAt (b .lists .slots) j))
   apart-at k j l g =
-      let z : Apart (bufferOf (icmAt (b .lists .icm) (0 + k))) (bufferOf (icmAt (b .lists .icm) (0 + j))) =
-      pairwise-table Apart (λ m. bufferOf (icmAt (b .lists .icm) m)) (areas b) 0 (b .lists .ranges - 0) k j
-      (pairwise-behind Apart (table (λ m. bufferAt (b .lists .lent) m) 0 (b .lists .lends - 0)) (rangesFrom b 0) far) l (omega (arith, g)) in
-      subst (λ (m : ℕ). Apart (bufferOf (icmAt (b .lists .icm) m)) (bufferOf (icmAt (b .lists .icm) j))) (let e : 0 + k ≡ k = omega arith in e)
-      (subst (λ (m : ℕ). Apart (bufferOf (icmAt (b .lists .icm) (0 + k))) (bufferOf (icmAt (b .lists .icm) m))) (let e : 0 + j ≡ j = omega arith in e) z)
+      let f = i .few in
+      apart-in Apart 82 0 (b .lists .slots) (64 + k) (64 + j) far (omega arith) (omega (arith, l)) (omega (arith, g, f)) (i .held k (omega (arith, l, g))) (i .held j g)
 
-  within-one : (e : Icm) (x y d : ℕ) → OnRange e x d → OnRange e y d → x ≡ y
+  within-one : (e : Slot) (x y d : ℕ) → OnRange e x d → OnRange e y d → x ≡ y
   within-one e x y d (i, l, p, q) (j, m, r, s) = omega (arith, p, q, r, s)
 
   pub one-page : (x y d : ℕ) → InRanges b x d → InRanges b y d → x ≡ y
   one-page x y d (k, l, p) (j, m, q) = same (eqb k j) refl
     where
-      both : (u v : ℕ) → u < v → v < b .lists .ranges → (a c : ℕ) → OnRange (icmAt (b .lists .icm) u) a d → OnRange (icmAt (b .lists .icm) v) c d → ⊥
-      both u v g h a c s t = apart-at u v g h .1 d (range-meets (icmAt (b .lists .icm) u) a d s) (range-meets (icmAt (b .lists .icm) v) c d t)
+      both : (u v : ℕ) → u < v → v < b .lists .ranges → (a c : ℕ) → OnRange (icmAt (b .lists .slots) u) a d → OnRange (icmAt (b .lists .slots) v) c d → ⊥
+      both u v g h a c s t = apart-at u v g h .1 d (range-meets (icmAt (b .lists .slots) u) a d s) (range-meets (icmAt (b .lists .slots) v) c d t)
 
       order : (t : Bool) → ltb k j ≡ t → (k ≡ j → ⊥) → ⊥
       order true t n = both k j (ltb-true k j t) m x y p q
       order false t n = let g = ltb-false k j t in both j k (omega (arith, g, n)) l y x q p
 
       same : (t : Bool) → eqb k j ≡ t → x ≡ y
-      same true t = within-one (icmAt (b .lists .icm) j) x y d (subst (λ (n : ℕ). OnRange (icmAt (b .lists .icm) n) x d) (eqb-true k j t) p) q
+      same true t = within-one (icmAt (b .lists .slots) j) x y d (subst (λ (n : ℕ). OnRange (icmAt (b .lists .slots) n) x d) (eqb-true k j t) p) q
       same false t = absurd (order (ltb k j) refl (eqb-false k j t))
 
 -- NONE ON TWO: the ranges of an accepted layout have no card page in common
@@ -143,17 +135,17 @@ module _ (n : Info) (b : Books) (e : b .lists .ranges ≡ 14) (laid : AsLaid n b
   -- a range of the layout in card pages
   record Placed (k : ℕ) : Type 0 where
     from : rangeAt n k .virt % 4096 ≡ 0
-    whole : icmAt (b .lists .icm) k .pages * 4096 ≤ rangeAt n k .bytes
+    whole : icmAt (b .lists .slots) k .pages * 4096 ≤ rangeAt n k .bytes
 
   placed : (k : ℕ) → k < 14 → Placed k
   placed k l =
       let g = each-at (GoodRange (layoutIn n .total)) (layoutIn n .ranges) (good .each) k (subst (λ (m : ℕ). k < m) (sym (good .fourteen)) l) in
       let v = g .from in
       let p = g .pages in
-      record { from = let q = v .1 in omega (arith, q); whole = pages-of (rangeAt n k .bytes) (icmAt (b .lists .icm) k .pages) (p .0) (p .1) (g .some) (laid .1 k l .1) }
+      record { from = let q = v .1 in omega (arith, q); whole = pages-of (rangeAt n k .bytes) (icmAt (b .lists .slots) k .pages) (p .0) (p .1) (g .some) (laid .1 k l .1) }
 
   -- two ranges, the first before the second
-  clash : (x d f k j : ℕ) → k < j → j < 14 → OnRange (icmAt (b .lists .icm) k) x d → OnRange (icmAt (b .lists .icm) j) x f → ⊥
+  clash : (x d f k j : ℕ) → k < j → j < 14 → OnRange (icmAt (b .lists .slots) k) x d → OnRange (icmAt (b .lists .slots) j) x f → ⊥
   clash x d f k j l h (i, m, p, q) (i′, m′, p′, q′) =
       let less : k < 14 = omega (arith, l, h) in
       let vk = laid .1 k less .0 in
@@ -177,9 +169,9 @@ module _ (n : Info) (b : Books) (e : b .lists .ranges ≡ 14) (laid : AsLaid n b
       order true t n = clash x d f k j (ltb-true k j t) (less j m) p q
       order false t n = let g = ltb-false k j t in clash x f d j k (omega (arith, g, n)) (less k l) q p
 
-      within : (z : Icm) → OnRange z x d → OnRange z x f → d ≡ f
+      within : (z : Slot) → OnRange z x d → OnRange z x f → d ≡ f
       within z (i, a, u, v) (i′, a′, u′, v′) = omega (arith, u, v, u′, v′)
 
       same : (t : Bool) → eqb k j ≡ t → d ≡ f
-      same true t = within (icmAt (b .lists .icm) j) (subst (λ (z : ℕ). OnRange (icmAt (b .lists .icm) z) x d) (eqb-true k j t) p) q
+      same true t = within (icmAt (b .lists .slots) j) (subst (λ (z : ℕ). OnRange (icmAt (b .lists .slots) z) x d) (eqb-true k j t) p) q
       same false t = absurd (order (ltb k j) refl (eqb-false k j t))

@@ -1,5 +1,5 @@
 -- What the machine's plans keep: between two calls nothing is under way; a closing has no buffer in hand until it frees, and a closing that frees does not say kept.
-use Prim.Native.Nat.{ℕ, zero, suc}
+use Prim.Native.Nat.{ℕ, zero, suc, _-_}
 use mathlib.Core.Bool.{Bool, true, false}
 use mathlib.Core.List.{List}
 use mathlib.Core.Path.{_≡_}
@@ -66,10 +66,8 @@ use Rattle.work.specs.declared.Work.{Work}
 use Rattle.work.specs.declared.End.{End}
 use Rattle.work.specs.declared.Ending.{Ending}
 use Rattle.work.specs.declared.Ending.the-variants as e
-use Rattle.session.specs.Failures.{madeIn, needsReset}
-use Rattle.session.specs.Session.{session, tookOf, silencedOf}
-use Rattle.session.specs.declared.Hold.{Hold}
-use Rattle.session.specs.declared.Hold.the-variants as o
+use Rattle.session.specs.Failures.{madeIn, needsReset, faultOf}
+use Rattle.session.specs.Session.{session, tookOf, silencedOf, slotAt, isHeld, faOf, auxOf}
 use Rattle.session.specs.declared.Top.{Top}
 use Rattle.session.specs.declared.Books.{Books}
 use Rattle.session.specs.declared.Info.{Info}
@@ -92,15 +90,15 @@ use Rattle.session.specs.declared.Fill.{Fill}
 use Rattle.session.specs.declared.Fill.the-variants as w
 use Rattle.session.specs.declared.Session.{Session}
 use Rattle.session.specs.declared.Planned.{Planned}
-use Rattle.closing_plan.specs.Closing.{isDone, isHeld, UNDOS}
-use Rattle.closing_plan.specs.Plan.{cmdIn, resetIn, onHold, givenPlan, outboxPlan, inboxPlan, faPlan, auxPlan, icmPlan, lentPlan, failedPlan, stoppedPlan, unmapFaPlan, unmapAuxPlan, unmapPlan, closeHcaPlan, undoSend, undoPlan, stopPlan, quiescePlan, closesOf, wasReset, closePlanAt, closePlan}
+use Rattle.closing_plan.specs.Closing.{isDone, UNDOS}
+use Rattle.closing_plan.specs.Plan.{cmdIn, resetIn, freesPlan, failedPlan, stoppedPlan, unmapFaPlan, unmapAuxPlan, unmapPlan, closeHcaPlan, undoSend, undoPlan, stopPlan, quiescePlan, closesOf, wasReset, closePlanAt, closePlan}
 use Rattle.client_plan.specs.Plan as cl
 use Rattle.client_plan.specs.Plan.{commandPlan, lendPlan, lendEnded, clientPlanAt, clientPlan}
 use Rattle.client_plan.specs.declared.Request.{Request}
 use Rattle.opening_plan.specs.Opening.{portsOf}
 use Rattle.opening_plan.specs.Plan as n
 use Rattle.opening_plan.specs.Plan.{attrIn, claimIn, barIn, failPlan, failByPlan, funcPlan, makePlan, nextRange, mappedPlan, mapPlan, areaPlan, layoutPlan, portPlan, fwReplied, capReplied, portReplied, funcReplied, bootPlanAt, bootPlan, preparePlanAt, preparePlan, listsAt, listsBoot, lists}
-use Rattle.fw_plan.specs.Calls.{planOf, withWork, filled, begunOf, stepTurn, stepOf}
+use Rattle.fw_plan.specs.Calls.{bookedOf, planOf, withWork, filled, begunOf, stepTurn, stepOf}
 use Rattle.calls_plan.specs.Calls.{withoutFailure, readyIn, planFor, begunTurn}
 use Rattle.calls_plan.specs.declared.Call.{Call}
 use Rattle.calls_plan.specs.declared.Call.the-variants as kn
@@ -158,12 +156,7 @@ FitClose k.UnmapAux z x = NoHost x
 FitClose k.UnmapFa z x = NoHost x
 FitClose k.Quiesce z x = NoHost x
 FitClose k.Reset z x = NoHost x
-FitClose (k.FreeLent i) z x = z ≡ c.Kept → ⊥
-FitClose (k.FreeIcm i) z x = z ≡ c.Kept → ⊥
-FitClose k.FreeAux z x = z ≡ c.Kept → ⊥
-FitClose k.FreeFa z x = z ≡ c.Kept → ⊥
-FitClose k.FreeInbox z x = z ≡ c.Kept → ⊥
-FitClose k.FreeOutbox z x = z ≡ c.Kept → ⊥
+FitClose (k.Free i) z x = z ≡ c.Kept → ⊥
 FitClose k.Release z x = NoHost x
 FitClose k.Restore z x = NoHost x
 
@@ -176,12 +169,7 @@ HeldClose k.UnmapAux z E = E
 HeldClose k.UnmapFa z E = E
 HeldClose k.Quiesce z E = E
 HeldClose k.Reset z E = E
-HeldClose (k.FreeLent i) z E = Unit {0}
-HeldClose (k.FreeIcm i) z E = Unit {0}
-HeldClose k.FreeAux z E = Unit {0}
-HeldClose k.FreeFa z E = Unit {0}
-HeldClose k.FreeInbox z E = Unit {0}
-HeldClose k.FreeOutbox z E = Unit {0}
+HeldClose (k.Free i) z E = Unit {0}
 HeldClose k.Release z E = z ≡ c.Kept → E
 HeldClose k.Restore z E = z ≡ c.Kept → E
 
@@ -203,12 +191,7 @@ held-close k.UnmapAux z E x = x
 held-close k.UnmapFa z E x = x
 held-close k.Quiesce z E x = x
 held-close k.Reset z E x = x
-held-close (k.FreeLent i) z E x = tt
-held-close (k.FreeIcm i) z E x = tt
-held-close k.FreeAux z E x = tt
-held-close k.FreeFa z E x = tt
-held-close k.FreeInbox z E x = tt
-held-close k.FreeOutbox z E x = tt
+held-close (k.Free i) z E x = tt
 held-close k.Release z E x = λ e. x
 held-close k.Restore z E x = λ e. x
 
@@ -278,32 +261,16 @@ fit-going k.UnmapAux z x x′ f h = f h
 fit-going k.UnmapFa z x x′ f h = f h
 fit-going k.Quiesce z x x′ f h = f h
 fit-going k.Reset z x x′ f h = f h
-fit-going (k.FreeLent i) z x x′ f h = h
-fit-going (k.FreeIcm i) z x x′ f h = h
-fit-going k.FreeAux z x x′ f h = h
-fit-going k.FreeFa z x x′ f h = h
-fit-going k.FreeInbox z x x′ f h = h
-fit-going k.FreeOutbox z x x′ f h = h
+fit-going (k.Free i) z x x′ f h = h
 fit-going k.Release z x x′ f h = f h
 fit-going k.Restore z x x′ f h = f h
-
--- the other mailbox is given back where the outbox was not to be had: the one buffer that an opening asks back before its closing, and then all is given back
-abbrev pub UnlessGiven : Prepare → Type 0 → Type 0
-UnlessGiven p.Attributes N = N
-UnlessGiven p.Claim N = N
-UnlessGiven p.Reset N = N
-UnlessGiven p.Bar N = N
-UnlessGiven p.Inbox N = N
-UnlessGiven p.Outbox N = N
-UnlessGiven (p.GiveInbox x) N = Unit {0}
-UnlessGiven p.Look N = N
 
 -- what is known before a step: N in an opening, whose closing has not begun; E in a closing
 abbrev pub Known : Stage → Closing → (N E : Type 0) → Type 0
 Known g.Fresh z N E = ⊥
 Known (g.Open y) z N E = ⊥
 Known g.Ended z N E = ⊥
-Known (g.Prepare y) z N E = UnlessGiven y N
+Known (g.Prepare y) z N E = N
 Known (g.Boot y) z N E = N
 Known (g.Client y) z N E = Unit {0}
 Known (g.Close y) z N E = HeldClose y z E
@@ -326,12 +293,7 @@ held-map (g.Close y) z E F f h = close-map y z E F f h
     close-map k.UnmapFa z E F f h = f h
     close-map k.Quiesce z E F f h = f h
     close-map k.Reset z E F f h = f h
-    close-map (k.FreeLent i) z E F f h = tt
-    close-map (k.FreeIcm i) z E F f h = tt
-    close-map k.FreeAux z E F f h = tt
-    close-map k.FreeFa z E F f h = tt
-    close-map k.FreeInbox z E F f h = tt
-    close-map k.FreeOutbox z E F f h = tt
+    close-map (k.Free i) z E F f h = tt
     close-map k.Release z E F f h = λ q. f (h q)
     close-map k.Restore z E F f h = λ q. f (h q)
 
@@ -343,12 +305,7 @@ held-step k.UnmapAux z x E F f q h = f q h
 held-step k.UnmapFa z x E F f q h = f q h
 held-step k.Quiesce z x E F f q h = f q h
 held-step k.Reset z x E F f q h = f q h
-held-step (k.FreeLent i) z x E F f q h = tt
-held-step (k.FreeIcm i) z x E F f q h = tt
-held-step k.FreeAux z x E F f q h = tt
-held-step k.FreeFa z x E F f q h = tt
-held-step k.FreeInbox z x E F f q h = tt
-held-step k.FreeOutbox z x E F f q h = tt
+held-step (k.Free i) z x E F f q h = tt
 held-step k.Release z x E F f q h = λ r. f q (h r)
 held-step k.Restore z x E F f q h = λ r. f q (h r)
 
@@ -357,7 +314,7 @@ abbrev pub Fit : (C P D : Type 0) → (Task → Type 0) → Stage → Closing �
 Fit C P D T g.Fresh z x = IsRest x
 Fit C P D T (g.Open y) z x = IsRest x
 Fit C P D T g.Ended z x = IsRest x
-Fit C P D T (g.Prepare y) z x = P × D × UnlessGiven y (T x)
+Fit C P D T (g.Prepare y) z x = P × D × T x
 Fit C P D T (g.Boot y) z x = P × D × T x
 Fit C P D T (g.Client y) z x = C
 Fit C P D T (g.Close y) z x = D × FitClose y z x
@@ -381,38 +338,11 @@ module _ (C P D : Type 0) (T : Task → Type 0) where
   frees-pick E true y z h k = h
   frees-pick E false y z h k = k
 
-  frees-hold : (E : Type 0) (x : Hold) (y : Buffer → Planned) (z : Planned) → ((d : Buffer) → Frees E (y d)) → Frees E z → Frees E (onHold x y z)
-  frees-hold E o.Absent y z h k = k
-  frees-hold E (o.Held d) y z h k = h d
-
   module _ (on : D) where
-    module _ (E : Type 0) (s : Session) (no : s .closing ≡ c.Kept → ⊥) (n : ℕ) where
-      given : Frees E (givenPlan s n)
-      given = ((on, tt), λ e. absurd (no e))
-
-      out-freed : Frees E (outboxPlan s n)
-      unfolding outboxPlan
-      out-freed = frees-hold E (s .books .held .outbox) _ _ (λ d. ((on, no), tt)) given
-
-      in-freed : Frees E (inboxPlan s n)
-      unfolding inboxPlan
-      in-freed = frees-hold E (s .books .held .inbox) _ _ (λ d. ((on, no), tt)) out-freed
-
-      fa-freed : Frees E (faPlan s n)
-      unfolding faPlan
-      fa-freed = frees-hold E (s .books .held .fa) _ _ (λ d. ((on, no), tt)) in-freed
-
-      aux-freed : Frees E (auxPlan s n)
-      unfolding auxPlan
-      aux-freed = frees-hold E (s .books .held .aux) _ _ (λ d. ((on, no), tt)) fa-freed
-
-      icm-freed : (i : ℕ) → Frees E (icmPlan s i n)
-      unfolding icmPlan
-      icm-freed i = frees-pick E (ltb i (s .books .lists .ranges)) _ _ ((on, no), tt) aux-freed
-
-      lent-freed : (i : ℕ) → Frees E (lentPlan s i n)
-      unfolding lentPlan
-      lent-freed i = frees-pick E (ltb i (s .books .lists .lends)) _ _ ((on, no), tt) (icm-freed 0)
+    freed : (E : Type 0) (m i : ℕ) (s : Session) → (s .closing ≡ c.Kept → ⊥) → (n : ℕ) → Frees E (freesPlan m i s n)
+    unfolding freesPlan
+    freed E zero i s free n = ((on, tt), λ e. absurd (free e))
+    freed E (suc m) i s free n = frees-pick E (isHeld (slotAt (s .books .lists .slots) i)) _ _ ((on, free), tt) (freed E m (suc i) s free n)
 
     -- CLOSING
     failed-suited : (s : Session) (n : ℕ) → Lawful (failedPlan s n)
@@ -422,15 +352,15 @@ module _ (C P D : Type 0) (T : Task → Type 0) where
     stopped-suited : (s : Session) (n : ℕ) → Lawful (stoppedPlan s n)
     unfolding stoppedPlan
     stopped-suited s n =
-        lawful-pick (s .books .wire .silent) _ _ (on, tt) (lawful-pick (s .books .wire .running) _ _ (on, tt) (lent-freed (Unit {0}) (closesOf s c.Clean (s .books)) clean-differs n 0 .0))
+        lawful-pick (s .books .wire .silent) _ _ (on, tt) (lawful-pick (s .books .wire .running) _ _ (on, tt) (freed (Unit {0}) 82 0 (closesOf s c.Clean (s .books)) clean-differs n .0))
 
     fa-suited : (s : Session) (n : ℕ) → Lawful (unmapFaPlan s n)
     unfolding unmapFaPlan
-    fa-suited s n = lawful-pick (isHeld (s .books .held .fa)) _ _ (on, tt) (stopped-suited s n)
+    fa-suited s n = lawful-pick (isHeld (faOf (s .books))) _ _ (on, tt) (stopped-suited s n)
 
     aux-suited : (s : Session) (n : ℕ) → Lawful (unmapAuxPlan s n)
     unfolding unmapAuxPlan
-    aux-suited s n = lawful-pick (isHeld (s .books .held .aux)) _ _ (on, tt) (fa-suited s n)
+    aux-suited s n = lawful-pick (isHeld (auxOf (s .books))) _ _ (on, tt) (fa-suited s n)
 
     unmap-suited : (s : Session) (i n : ℕ) → Lawful (unmapPlan s i n)
     unfolding unmapPlan
@@ -458,7 +388,7 @@ module _ (C P D : Type 0) (T : Task → Type 0) where
     quiesce-suited s y = lawful-pick (s .books .wire .broken) _ _ (on, tt) (undo-suited (silencedOf s) UNDOS y)
 
     reset-suited : (s : Session) (x : ResetEnd) (n : ℕ) → Lawful (wasReset s x n)
-    reset-suited s x n = lawful-pick (isGood x) _ _ (lent-freed (Unit {0}) (closesOf s c.Reset (s .books)) reset-differs n 0 .0) (on, tt)
+    reset-suited s x n = lawful-pick (isGood x) _ _ (freed (Unit {0}) 82 0 (closesOf s c.Reset (s .books)) reset-differs n .0) (on, tt)
 
     -- a task of a closing has ended
     close-lawful : (E : Type 0) (s : Session) (y : End) (top : Top) (st : Close) (x : Task) → FitClose st (s .closing) x → HeldClose st (s .closing) E → Frees E (closePlanAt s y top st)
@@ -469,12 +399,7 @@ module _ (C P D : Type 0) (T : Task → Type 0) where
     close-lawful E s y top k.UnmapFa x h d = (lawful-pick (isDone (cmdIn y .result)) _ _ (stopped-suited (tookOf s (cmdIn y)) (top .count)) (failed-suited (tookOf s (cmdIn y)) (top .count)), held-in (closePlanAt s y top k.UnmapFa) E d)
     close-lawful E s y top k.Quiesce x h d = (tt, tt)
     close-lawful E s y top k.Reset x h d = (reset-suited s (resetIn y) (top .count), held-in (closePlanAt s y top k.Reset) E d)
-    close-lawful E s y top (k.FreeLent i) x h d = lent-freed E s h (top .count) i
-    close-lawful E s y top (k.FreeIcm i) x h d = icm-freed E s h (top .count) i
-    close-lawful E s y top k.FreeAux x h d = fa-freed E s h (top .count)
-    close-lawful E s y top k.FreeFa x h d = in-freed E s h (top .count)
-    close-lawful E s y top k.FreeInbox x h d = out-freed E s h (top .count)
-    close-lawful E s y top k.FreeOutbox x h d = given E s h (top .count)
+    close-lawful E s y top (k.Free i) x h d = freed E (81 - i) (suc i) s h (top .count)
     close-lawful E s y top k.Release x h d = ((on, tt), d)
     close-lawful E s y top k.Restore x h d = (tt, d)
 
@@ -488,9 +413,9 @@ module _ (C P D : Type 0) (T : Task → Type 0) where
     unfolding lendPlan
     lend-begins bytes n = by-outcome (Frees E) (pagesFor bytes) _ _ (λ i. (so, tt)) (tt, tt)
 
-    lend-ended : (y : Made) (n : ℕ) → Frees E (lendEnded s y n)
-    lend-ended (m.Ready y) n = (tt, tt)
-    lend-ended (m.Refused y) n = (tt, tt)
+    lend-ended : (i : ℕ) (y : Made) (n : ℕ) → Frees E (lendEnded s i y n)
+    lend-ended i (m.Ready y) n = (tt, tt)
+    lend-ended i (m.Refused y) n = (tt, tt)
 
     client-undo : (mark i : ℕ) (y : Top) → Frees E (cl.undoSend s mark i y)
     client-undo mark zero y = (tt, tt)
@@ -502,7 +427,7 @@ module _ (C P D : Type 0) (T : Task → Type 0) where
 
   client-lawful : (E : Type 0) → C → (s : Session) (y : End) (top : Top) (st : Client) → Frees E (clientPlanAt s y top st)
   client-lawful E so s y top (kc.Command f) = (tt, tt)
-  client-lawful E so s y top kc.Lend = lend-ended E so s (madeIn y) (top .count)
+  client-lawful E so s y top (kc.Lend i) = lend-ended E so s i (madeIn y) (top .count)
   client-lawful E so s y top (kc.UndoTo mark i) = frees-pick E (isDone (cmdIn y .result)) _ _ (undo-begins E so (tookOf s (cmdIn y)) mark i top) (tt, tt)
 
   module _ (op : P × D) (begins : (x : Task) → Starts x → T x) where
@@ -603,13 +528,9 @@ module _ (C P D : Type 0) (T : Task → Type 0) where
     in-suited s (m.Ready y) top = on _ tt
     in-suited s (m.Refused y) top = (op .1, tt)
 
-    gives-suited : (x : Hold) (y : Buffer → Planned) (z : Planned) → ((d : Buffer) → Lawful (y d)) → Lawful z → Lawful (onHold x y z)
-    gives-suited o.Absent y z h d = d
-    gives-suited (o.Held x) y z h d = h x
-
     out-suited : (s : Session) (y : Made) (top : Top) → Lawful (n.outboxPlan s y top)
     out-suited s (m.Ready y) top = on _ tt
-    out-suited s (m.Refused y) top = gives-suited (s .books .held .inbox) _ _ (λ d. (op .0, op .1, tt)) (op .1, tt)
+    out-suited s (m.Refused y) top = freed (op .1) (Unit {0}) 82 0 (n.givesUp s (faultOf y) (s .books)) clean-differs (top .count) .0
 
     prepare-suited : (s : Session) (y : End) (top : Top) (st : Prepare) → Lawful (preparePlanAt s y top st)
     prepare-suited s y top p.Attributes = attr-suited s (attrIn y) top
@@ -618,7 +539,6 @@ module _ (C P D : Type 0) (T : Task → Type 0) where
     prepare-suited s y top p.Bar = bar-suited s (barIn y) top
     prepare-suited s y top p.Inbox = in-suited s (madeIn y) top
     prepare-suited s y top p.Outbox = out-suited s (madeIn y) top
-    prepare-suited s y top (p.GiveInbox z) = (op .1, tt)
     prepare-suited s y top p.Look = on _ tt
 
   -- WHAT IS WRITTEN before the next question changes no stage but a page list's, which posts a command
@@ -682,30 +602,11 @@ module _ (C P D : Type 0) (T : Task → Type 0) where
       ended st x y h = filled-both E (planOf (withWork (was st) x) y out top .fill) (planOf (withWork (was st) x) y out top .session) i h
 
       module _ (N : Type 0) (so : N → E) (begins : N → (x : Task) → Starts x → T x) where
-        -- a task of an opening has ended before its closing begins
-        prepared : (st : Prepare) (x : Work) (y : End) → P × D → N → Both E (stepTurn (was (g.Prepare st)) r x i out top (e.Ended y) .session)
+        by-prepare : (st : Prepare) (x : Work) (n : Ending) → P × D → (N → T (x .task)) → N → Both E (stepTurn (was (g.Prepare st)) r x i out top n .session)
         unfolding preparePlan
-        prepared st x y op h =
+        by-prepare st x e.Going op f h = ((op .0, op .1, f h), tt)
+        by-prepare st x (e.Ended y) op f h =
             ended (g.Prepare st) x y (prepare-suited op (begins h) (withWork (was (g.Prepare st)) x) y top st, held-in (preparePlanAt (withWork (was (g.Prepare st)) x) y top st) E (so h))
-
-        by-prepare : (st : Prepare) (x : Work) (n : Ending) → P × D → (N → T (x .task)) → UnlessGiven st N → Both E (stepTurn (was (g.Prepare st)) r x i out top n .session)
-        unfolding preparePlan
-        by-prepare p.Attributes x e.Going op f h = ((op .0, op .1, f h), tt)
-        by-prepare p.Claim x e.Going op f h = ((op .0, op .1, f h), tt)
-        by-prepare p.Reset x e.Going op f h = ((op .0, op .1, f h), tt)
-        by-prepare p.Bar x e.Going op f h = ((op .0, op .1, f h), tt)
-        by-prepare p.Inbox x e.Going op f h = ((op .0, op .1, f h), tt)
-        by-prepare p.Outbox x e.Going op f h = ((op .0, op .1, f h), tt)
-        by-prepare (p.GiveInbox v) x e.Going op f h = ((op .0, op .1, tt), tt)
-        by-prepare p.Look x e.Going op f h = ((op .0, op .1, f h), tt)
-        by-prepare p.Attributes x (e.Ended y) op f h = prepared p.Attributes x y op h
-        by-prepare p.Claim x (e.Ended y) op f h = prepared p.Claim x y op h
-        by-prepare p.Reset x (e.Ended y) op f h = prepared p.Reset x y op h
-        by-prepare p.Bar x (e.Ended y) op f h = prepared p.Bar x y op h
-        by-prepare p.Inbox x (e.Ended y) op f h = prepared p.Inbox x y op h
-        by-prepare p.Outbox x (e.Ended y) op f h = prepared p.Outbox x y op h
-        by-prepare (p.GiveInbox v) x (e.Ended y) op f h = ended (g.Prepare (p.GiveInbox v)) x y ((op .1, tt), λ q. absurd (clean-differs q))
-        by-prepare p.Look x (e.Ended y) op f h = prepared p.Look x y op h
 
         by-boot : (st : Boot) (x : Work) (n : Ending) → P × D → (N → T (x .task)) → N → Both E (stepTurn (was (g.Boot st)) r x i out top n .session)
         unfolding bootPlan
@@ -724,8 +625,7 @@ module _ (C P D : Type 0) (T : Task → Type 0) where
       by-close st x (e.Ended y) q m h = ended (g.Close st) x y (close-lawful (q .0) E (withWork (was (g.Close st)) x) y top st (v .task) (q .1) h)
 
       by-stage : (N : Type 0) → (N → E) → (N → (x : Task) → Starts x → T x) → (N → T (workStepOf v r bytes .work .task)) → (S : Task → Type 0) (st : Stage) → Fit C P D S st z (v .task)
-          → Known st z N E → Both E (stepOf (was st) r bytes i out top .session)
-      unfolding stepOf
+          → Known st z N E → Both E (stepTurn (was st) r (workStepOf v r bytes .work) i out top (workStepOf v r bytes .ending) .session)
       by-stage N so begins f S g.Fresh q h = absurd h
       by-stage N so begins f S (g.Open y) q h = absurd h
       by-stage N so begins f S g.Ended q h = absurd h
@@ -736,7 +636,8 @@ module _ (C P D : Type 0) (T : Task → Type 0) where
 
     pub step-both : (N E : Type 0) → (N → E) → (N → (x : Task) → Starts x → T x) → (s : Session) (r : Answer) (bytes i out : List ℕ) (top : Top) → (N → T (workStepOf (s .work) r bytes .work .task)) → (S : Task → Type 0)
         → Fit C P D S (s .stage) (s .closing) (s .work .task) → Known (s .stage) (s .closing) N E → Both E (stepOf s r bytes i out top .session)
-    step-both N E so begins s r bytes i out top f S q h = by-stage E (s .books) (s .info) (s .failure) (s .closing) (s .work) r bytes i out top N so begins f S (s .stage) q h
+    unfolding stepOf
+    step-both N E so begins s r bytes i out top f S q h = by-stage E (bookedOf s r .books) (s .info) (s .failure) (s .closing) (s .work) r bytes i out top N so begins f S (s .stage) q h
 
     -- A CALL BEGINS: what is needed of it
     abbrev pub Needed : Call → Type 0

@@ -19,13 +19,13 @@
 --   card_calls/specs/SafeCourse.antt  `Typed`, `Sized`, `Lendable`: what is lent and called has its
 --                                     types' widths
 --   card_calls/specs/Ranges.antt      `OnRange`, `InRanges`, `Capped`, `Accepted`, `AsLaid`
---   card_calls/specs/Holding.antt     `Boxes` alone
+--   card_calls/specs/Holding.antt     `InSlot`, `Boxes` alone
 --   demand/specs/Events.antt          `Input`, `Event`, `Stand`, `Step`
 --   this file
--- and of the code's definitions: session's `fresh`, `icmAt`, `bufferOf`; calls' `callOf`, `callIn`,
--- which say when a call is taken; fw's `answerOf`, `answerIn`, `asksOf`, `outcomeOf` (what
--- hca_result tells); pci's `replyOf`; closing's `lendsFrom`; reply's `capabilityOf`; layout's
--- `profileOf` with its ranges; opening's `layoutIn`, `rangeAt`; dma's `pagesFor`, `isPage`,
+-- and of the code's definitions: session's `fresh`, `slotAt`, `icmAt`, `bufferOf`, `isHeld`, `inboxOf`,
+-- `outboxOf`, `named`; calls' `callOf`, `callIn`, which say when a call is taken; fw's `answerOf`,
+-- `answerIn`, `asksOf`, `outcomeOf` (what hca_result tells); pci's `replyOf`; reply's `capabilityOf`;
+-- layout's `profileOf` with its ranges; opening's `layoutIn`, `rangeAt`; dma's `pagesFor`, `isPage`,
 -- `endsWithin`.
 -- That it is not empty: demand_run/specs/Run.antt. The same on the bytes of C linkage:
 -- demand_abi/specs/Linked.antt.
@@ -39,12 +39,11 @@ use Rattle.dma.specs.declared.Buffer.{Buffer}
 use Rattle.pci.specs.Script.{Ask}
 use Rattle.pci.specs.declared.Question.{Question}
 use Rattle.pci.specs.declared.Question.the-variants as q
-use Rattle.session.specs.Session.{fresh, icmAt, bufferOf}
+use Rattle.session.specs.Session.{fresh, icmAt, bufferOf, named}
 use Rattle.session.specs.declared.Books.{Books}
 use Rattle.session.specs.declared.Info.{Info}
 use Rattle.session.specs.declared.Closing.{Closing}
 use Rattle.session.specs.declared.Closing.the-variants as c
-use Rattle.closing_plan.specs.Closing.{lendsFrom}
 use Rattle.fw_plan.specs.Calls.{asksOf, outcomeOf}
 use Rattle.fw_plan.specs.declared.Outcome.{Outcome}
 use Rattle.fw_plan.specs.declared.Outcome.the-variants as u
@@ -75,7 +74,7 @@ Inside w = (w .host .log ≡ []) ⊎ ((d : ℕ) → MayUse (w .card) d → Ours 
 
 -- (b) range k's buffer
 abbrev pub rangeOf : Books → ℕ → Buffer
-rangeOf b k = bufferOf (icmAt (b .lists .icm) k)
+rangeOf b k = bufferOf (icmAt (b .lists .slots) k)
 
 pub record Exact (n : Info) (b : Books) (w : World) : Type 1 where
   -- "the mapped ranges of the layout": all fourteen, of the layout of an accepted reply
@@ -104,7 +103,7 @@ pub record AllBack (w : World) : Type 1 where
 -- "or the session says that all not given back before are kept, and closing gave none back": the
 -- books name all that the session has of the host, which is as it was when the closing began
 pub record AllKept (base : ℕ → Option Hold) (b : Books) (w : World) (began : Option Host) : Type 1 where
-  pub named : Owns base (lendsFrom b 0) (w .host)
+  pub named : Owns base (named b) (w .host)
   pub none : (k : Host) → began ≡ some k → w .host ≡ k
 
 abbrev pub EndedBy : (ℕ → Option Hold) → Stand → Closing → Type 1

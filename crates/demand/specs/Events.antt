@@ -17,6 +17,8 @@ use Rattle.session.specs.Course.{Lent}
 use Rattle.session.specs.declared.Top.{Top}
 use Rattle.dma.specs.Buffers.{isPage, endsWithin}
 use Rattle.dma.specs.declared.Buffer.{Buffer}
+use Rattle.session.specs.Session.{slotAt, bufferOf}
+use Rattle.session.specs.declared.Books.{Books}
 use Rattle.session.specs.declared.Gave.{Gave}
 use Rattle.session.specs.declared.Gave.the-variants as v
 use Rattle.session.specs.declared.Failure.{Failure}
@@ -190,25 +192,28 @@ beganNow f.Nothing c l q k z = beganBy c l q k z
 beganNow (f.By y) c l q k z = z
 
 -- WHAT IS LENT TO THE CARD: "lent pages until CLOSE_HCA succeeds". A buffer is lent when the result
--- of a lend that was taken gives it to the client
-abbrev pub gaveBuffer : Gave → Option Buffer
-gaveBuffer v.Nothing = none
-gaveBuffer (v.Command y us) = none
-gaveBuffer (v.Lent b) = some b
-gaveBuffer (v.Failed y) = none
+-- of a lend that was taken gives it to the client, which is the one in the slot that the result tells
+abbrev pub bufferAt : Books → ℕ → Buffer
+bufferAt b i = bufferOf (slotAt (b .lists .slots) i)
 
-abbrev pub givenBy : Outcome → Option Buffer
-givenBy u.Fresh = none
-givenBy u.Running = none
-givenBy (u.Opened y) = gaveBuffer y
-givenBy (u.Failed y k) = none
-givenBy (u.Closed k) = none
+abbrev pub gaveBuffer : Books → Gave → Option Buffer
+gaveBuffer b v.Nothing = none
+gaveBuffer b (v.Command y us) = none
+gaveBuffer b (v.Lent i) = some (bufferAt b i)
+gaveBuffer b (v.Failed y) = none
+
+abbrev pub givenBy : Books → Outcome → Option Buffer
+givenBy b u.Fresh = none
+givenBy b u.Running = none
+givenBy b (u.Opened y) = gaveBuffer b y
+givenBy b (u.Failed y k) = none
+givenBy b (u.Closed k) = none
 
 abbrev pub lentBy : List Call → Session → Option Buffer
 lentBy [] s = none
 lentBy (c.Open ∷ l) s = none
 lentBy (c.Command y ∷ l) s = none
-lentBy (c.Lend bytes ∷ l) s = givenBy (outcomeOf s)
+lentBy (c.Lend bytes ∷ l) s = givenBy (s .books) (outcomeOf s)
 lentBy (c.UndoTo mark r ∷ l) s = none
 lentBy (c.Quiesce ∷ l) s = none
 lentBy (c.Close ∷ l) s = none

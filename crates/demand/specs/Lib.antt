@@ -1,2 +1,3 @@
 pub mod Events
 pub mod Demand
+pub mod Books

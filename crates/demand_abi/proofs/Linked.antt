@@ -1,9 +1,9 @@
 -- DEMAND 3 OVER C LINKAGE, from the theorem about sessions by value: a call on bytes is a call on the session that they hold, or it is refused, and then an event that is
 -- refused in any case stands for it.
-use Prim.Native.Nat.{ℕ, _-_, _<_, _^_}
+use Prim.Native.Nat.{ℕ, _-_, _*_, _<_, _^_}
 use native.Mathlib.Omega.{arith}
 use mathlib.Core.Bool.{Bool, true, false}
-use mathlib.Core.List.{List, [], _∷_, _++_}
+use mathlib.Core.List.{List, [], _∷_}
 use mathlib.Core.Logic.{_⊎_, inl, inr, ⊎-elim}
 use mathlib.Core.Option.{Option, none}
 use mathlib.Core.Path.{_≡_, refl, sym, _∙_, ap, subst}
@@ -15,11 +15,11 @@ use Rattle.work.specs.declared.Ending.{Ending}
 use Rattle.work.specs.declared.Ending.the-variants as e
 use Rattle.fields.specs.Outcome.{Outcome, value, refused, numberOf, pick}
 use Rattle.words_calls.specs.Calls.{heardOf, turnIn}
-use Rattle.words.specs.Words.{wordsIn, putWords, flat}
-use Rattle.words.proofs.Laws.{put-append}
-use Rattle.words_books.specs.Coding.{bufferWords, ledgerWords}
-use Rattle.words_session.specs.Image.{ledgerFor, icmWords, decodeOf}
-use Rattle.words_laws.proofs.Poll.{books-stand}
+use Rattle.words.specs.Words.{putWords}
+use Rattle.words_session.specs.Image.{decodeOf}
+use Rattle.results.specs.Books.{BOOKS, booksWords, booksIn}
+use Rattle.bytes_plan.specs.Left.{callLeft, answerLeft}
+use Rattle.abi.proofs.Turns.{head-known}
 use Rattle.pci.specs.Script.{Ask}
 use Rattle.pci.specs.Refusals.{refusal}
 use Rattle.pci.specs.declared.Refusal.{Refusal}
@@ -36,7 +36,7 @@ use Rattle.session.specs.declared.Session.{Session}
 use Rattle.undo.specs.List.{none as noRecord, topOf, topAt, anyReserved}
 use Rattle.undo.proofs.Laws.{top-cases}
 use Rattle.undo.specs.declared.Undo.{Undo}
-use Rattle.fw_plan.specs.Calls.{asksOf, inTime, isLent, answerable, answerOf, answerIn, answerOut, refusedOf, stepOf, stepTurn}
+use Rattle.fw_plan.specs.Calls.{asksOf, inTime, isLent, answerable, answerOf, answerIn, answerOut, refusedOf, bookedOf, stepOf, stepTurn}
 use Rattle.fw_plan.specs.declared.Turn.{Turn}
 use Rattle.calls_plan.specs.Calls.{callable, lentFor, barred as barredBy, unless, begunTurn, callOf, callIn, callOut}
 use Rattle.calls_plan.specs.declared.Call.{Call}
@@ -44,7 +44,7 @@ use Rattle.abi.specs.Turns.{After, after, codeBy, outBy, taken, callKnown, answ
 use Rattle.abi.specs.Calls.{requestOf, callFrom, wantedBy, made, heardBy, told}
 use Rattle.abi.specs.Kept.{givenBy, callNext, answerNext, knownNext, wantedNext, heardNext, Keeps, Holds}
 use Rattle.abi.specs.Kept as k
-use Rattle.abi.specs.Readers.{reads, ofSession, resultKnown, booksIn, booksKnown, result, books}
+use Rattle.abi.specs.Readers.{reads, ofSession, resultKnown, booksKnown, result, books}
 use Rattle.abi.proofs.Poll.{poll-is-whole}
 use Rattle.card.specs.Card.{Hold, World}
 use Rattle.card_calls.specs.SafeCourse.{Typed, Sized as SizedRequest}
@@ -52,7 +52,7 @@ use Rattle.demand.specs.Events.{Input, callMake, callAnswer, SizedCall, SizedIn
 use Rattle.demand.specs.Events as v
 use Rattle.demand.specs.Demand as w
 use Rattle.demand.proofs.Demand.{demand}
-use Rattle.demand_abi.specs.Linked.{AbiCall, hcaCall, hcaAnswer, AbiEvent, leaves, next, nextBy, callWith, answerWith, inputOf, AbiHappens, abiCalls, abiBegan, UndoSized, AbiStand, standOf, isTaken, AbiStep, Told, booksWords, Says, AbiAlways, Linked}
+use Rattle.demand_abi.specs.Linked.{AbiCall, hcaCall, hcaAnswer, AbiEvent, leaves, next, nextBy, callWith, answerWith, inputOf, AbiHappens, abiCalls, abiBegan, UndoSized, AbiStand, standOf, isTaken, AbiStep, Told, Says, AbiAlways, Linked}
 
 -- THE NUMBER of a refusal is not 0
 number-some : (w : Refusal) → eqb (numberOf {A = Unit {0}} (refusal w)) 0 ≡ false
@@ -102,12 +102,12 @@ by-refusal : (z : Failure) (t : Turn) → t .refusal ≡ z → (s : Session) (st
 by-refusal f.Nothing t e s st i' o' w = inr (record { good = e; code = refl; inbox = refl; session = refl; told = refl })
 by-refusal (f.By y) t e s st i' o' w = inl (record { code = not-zero (numberOf {A = Unit {0}} (refusal y)) (number-some y); same = refl })
 
-by-turn : (b r : Bool) (t : Turn) (s : Session) (i' o' st i o w : List ℕ)
-    → Barred (pick b (pick r (after 21 st i o w) (taken t st i' o' w)) (after 20 st i o w)) (k.nextBy b r t s) s
-    ⊎ Took (pick b (pick r (after 21 st i o w) (taken t st i' o' w)) (after 20 st i o w)) (k.nextBy b r t s) t i' w
-by-turn true true t s i' o' st i o w = inl (record { code = λ e. not-zero 21 refl e; same = refl })
-by-turn true false t s i' o' st i o w = by-refusal (t .refusal) t refl s _ i' o' w
-by-turn false r t s i' o' st i o w = inl (record { code = λ e. not-zero 20 refl e; same = refl })
+by-turn : (b r : Bool) (t : Turn) (s : Session) (s' i' o' st i o w : List ℕ)
+    → Barred (pick b (pick r (after 21 st i o w) (taken t s' st i' o' w)) (after 20 st i o w)) (k.nextBy b r t s) s
+    ⊎ Took (pick b (pick r (after 21 st i o w) (taken t s' st i' o' w)) (after 20 st i o w)) (k.nextBy b r t s) t i' w
+by-turn true true t s s' i' o' st i o w = inl (record { code = λ e. not-zero 21 refl e; same = refl })
+by-turn true false t s s' i' o' st i o w = by-refusal (t .refusal) t refl s _ i' o' w
+by-turn false r t s s' i' o' st i o w = inl (record { code = λ e. not-zero 20 refl e; same = refl })
 
 -- A TURN tells the question of the session that it leaves
 abbrev Tells : Turn → Type 0
@@ -130,7 +130,7 @@ answer-tells : (s : Session) (v : Answer) (r i o : List ℕ) (u : Top) → Tells
 unfolding stepOf
 answer-tells s v r i o u = tells-time (answerable s v) (isLent i o u) _ _ _ (by (workStepOf (s .work) v r .ending)) refl refl
   where
-    by : (n : Ending) → Tells (stepTurn s v (workStepOf (s .work) v r .work) i o u n)
+    by : (n : Ending) → Tells (stepTurn (bookedOf s v) v (workStepOf (s .work) v r .work) i o u n)
     by e.Going = refl
     by (e.Ended y) = refl
 
@@ -138,11 +138,12 @@ answer-tells s v r i o u = tells-time (answerable s v) (isLent i o u) _ _ _ (by 
 module _ (st i o w : List ℕ) (u : Top) (s : Session) (d : decodeOf st ≡ value s) where
   called-seen : (c : Call) (y : List ℕ) → Barred (called c y u st i o w) (callNext c y u i o w s) s ⊎ Took (called c y u st i o w) (callNext c y u i o w s) (callOf s c y i o u) (callIn s c y i o u) w
   unfolding called callKnown callNext
-  called-seen c y = rw d (by-turn (callable s c) (ltb (length w) 40) (callOf s c y i o u) s (callIn s c y i o u) (callOut s c y i o u) st i o w)
+  called-seen c y = rw d (by-turn (callable s c) (ltb (length w) 40) (callOf s c y i o u) s (callLeft c (callOf s c y i o u .session) st) (callIn s c y i o u) (callOut s c y i o u) st i o w)
 
   answered-seen : (v : Answer) (r : List ℕ) → Barred (answered v r u st i o w) (answerNext v r u i o w s) s ⊎ Took (answered v r u st i o w) (answerNext v r u i o w s) (answerOf s v r i o u) (answerIn s v r i o u) w
   unfolding answered answerKnown answerNext
-  answered-seen v r = rw d (by-turn (answerable s v) (ltb (length w) 40) (answerOf s v r i o u) s (answerIn s v r i o u) (answerOut s v r i o u) st i o w)
+  answered-seen v r =
+      rw (head-known st s d) (by-turn (answerable s v) (ltb (length w) 40) (answerOf s v r i o u) s (answerLeft s v r o (answerOf s v r i o u .session) st) (answerIn s v r i o u) (answerOut s v r i o u) st i o w)
 
 -- WHAT IS LENT has its types' widths
 none-sized : (n : ℕ) → Typed (topAt n noRecord)
@@ -306,18 +307,16 @@ translate x s (hcaAnswer j p q res) i o l n w y d st = by (heardOf j p q) refl
         (record { code = not-zero k (subst HeardIn h (heard-some j p q)); same = refl }))
 
 -- WHAT THE LOADER READS
+once : (b : Bool) (w ws : List ℕ) → pick b (reads 21 w) (reads 0 (pick b w ws)) ≡ pick b (reads 21 w) (reads 0 ws)
+once true w ws = refl
+once false w ws = refl
+
 says : (st : List ℕ) (s : Session) → decodeOf st ≡ value s → Says st s
-unfolding result resultKnown books booksKnown
+unfolding result resultKnown books booksKnown booksIn
 says st s d = record {
   result = λ w. ap (λ (z : Outcome Session). ofSession z (λ y. resultKnown y w) w) d;
-  books = λ w. ap (λ (z : Outcome Session). ofSession z (λ y. booksKnown st w) w) d ∙ ap (λ (ws : List ℕ). pick (ltb (length w) 2240) (reads 21 w) (reads 0 ws)) (told w);
+  books = λ w. ap (λ (z : Outcome Session). ofSession z (λ y. booksKnown y w) w) d ∙ once (ltb (length w) (BOOKS * 8)) w (putWords w 0 (booksWords s));
 }
-  where
-    told : (w : List ℕ) → booksIn st w ≡ putWords w 0 (booksWords s)
-    told w =
-        let stand = books-stand st s d in
-        ap (λ (ws : List ℕ). putWords (putWords w 0 ws) 32 (wordsIn st 169 248)) (stand .0) ∙ ap (putWords (putWords w 0 (ledgerWords (ledgerFor s))) 32) (stand .1)
-        ∙ sym (put-append w 0 (ledgerWords (ledgerFor s)) (flat icmWords (s .books .lists .icm) ++ flat bufferWords (s .books .lists .lent)))
 
 -- AND SO ON, along every list
 lift : (base : ℕ → Option Hold) (es : List AbiEvent) (x : AbiStand) (s : Session) → decodeOf (x .state) ≡ value s → ((gs : List v.Event) → w.Always base gs (standOf x s)) → AbiAlways base es x

@@ -10,17 +10,16 @@
 -- the two halves of the contracts of `hca_call` and `hca_answer`.
 use Prim.Native.Nat.{ℕ, _<_, _^_}
 use mathlib.Core.Bool.{Bool}
-use mathlib.Core.List.{List, [], _∷_, _++_}
+use mathlib.Core.List.{List, [], _∷_}
 use mathlib.Core.Option.{Option, none}
 use mathlib.Core.Path.{_≡_}
 use lib.Dec.{eqb}
 use lib.ListN.{getD, take, drop}
 use Rattle.fields.specs.Outcome.{Outcome, value, refused, pick}
 use Rattle.words_calls.specs.Calls.{heardOf, turnIn}
-use Rattle.words.specs.Words.{flat}
-use Rattle.words_books.specs.Coding.{bufferWords, ledgerWords}
-use Rattle.words_session.specs.Image.{ledgerFor, icmWords, decodeOf}
+use Rattle.words_session.specs.Image.{decodeOf}
 use Rattle.results.specs.Results.{outcomeWords}
+use Rattle.results.specs.Books.{BOOKS, booksWords}
 use Rattle.pci.specs.Script.{Ask}
 use Rattle.pci.specs.declared.Answer.{Answer}
 use Rattle.session.specs.Session.{fresh}
@@ -156,13 +155,9 @@ Told x s e =
 
 -- WHAT THE LOADER READS of bytes that hold s: `hca_result` the result, `hca_books` what the session
 -- has of the host
-abbrev pub booksWords : Session → List ℕ
-booksWords s =
-    ledgerWords (ledgerFor s) ++ (flat icmWords (s .books .lists .icm) ++ flat bufferWords (s .books .lists .lent))
-
 pub record Says (state : List ℕ) (s : Session) : Type 0 where
-  pub result : (w : List ℕ) → result state w ≡ given 5 w (outcomeWords (outcomeOf s))
-  pub books : (w : List ℕ) → books state w ≡ given 280 w (booksWords s)
+  pub result : (w : List ℕ) → result state w ≡ given 5 w (outcomeWords (s .books .lists .slots) (outcomeOf s))
+  pub books : (w : List ℕ) → books state w ≡ given BOOKS w (booksWords s)
 
 -- the bytes hold a session, it is good, and the loader reads it
 pub record GoodIn (base : ℕ → Option Hold) (x : AbiStand) (s : Session) : Type 1 where

@@ -10,20 +10,19 @@ use lib.ListN.{length, take, drop, getD, replicate, length-replicate}
 use borrow.Author.Tests.{le-ltb}
 use Rattle.fields.specs.Outcome as fo
 use Rattle.fields.specs.Outcome.{value, pick}
-use Rattle.words.specs.Words.{Below, Each}
+use Rattle.words.specs.Places.{stateBytes}
 use Rattle.words_session.specs.Image.{decodeOf, putSession}
-use Rattle.words_books.specs.Fits.{BufferFits}
-use Rattle.words_info.specs.Fits.{PortFits}
 use Rattle.words_calls.specs.Calls.{questionWords}
-use Rattle.words_laws.specs.Kept.{IcmFits, Fits}
-use Rattle.words_laws.proofs.Trip.{trip}
+use Rattle.words_laws.proofs.Fresh.{fresh-trip}
 use Rattle.results.specs.Results.{outcomeWords, endWord}
+use Rattle.dma.specs.declared.Buffer.{Buffer}
 use Rattle.hcr.specs.Words.{isIn}
 use Rattle.pci.specs.declared.Question.{Question}
 use Rattle.pci.specs.declared.Question.the-variants as q
-use Rattle.reply.specs.Replies.{noPort}
-use Rattle.session.specs.Session.{fresh}
+use Rattle.session.specs.Session.{slotAt, bufferOf, isHeld, inSlot, fresh}
+use Rattle.session.specs.declared.Slot.{Slot}
 use Rattle.session.specs.declared.Top.{Top}
+use Rattle.session.specs.declared.Books.{Books}
 use Rattle.session.specs.declared.Closing.{Closing}
 use Rattle.session.specs.declared.Closing.the-variants as z
 use Rattle.session.specs.declared.Session.{Session}
@@ -46,7 +45,7 @@ use Rattle.demand_run.proofs.Lift.{no-record, onBytes, Held, encoded-sl
 use Rattle.demand_run.proofs.Live.{not-empty}
 
 -- WHAT THE LOADER READS of bytes that hold a session
-read-result : (st : List ℕ) (s : Session) → decodeOf st ≡ value s → (w : List ℕ) → result st w ≡ given 5 w (outcomeWords (outcomeOf s))
+read-result : (st : List ℕ) (s : Session) → decodeOf st ≡ value s → (w : List ℕ) → result st w ≡ given 5 w (outcomeWords (s .books .lists .slots) (outcomeOf s))
 unfolding result resultKnown
 read-result st s d w = ap (λ (y : fo.Outcome Session). ofSession y (λ x. resultKnown x w) w) d
 
@@ -77,7 +76,7 @@ record Same (c : Chapter) (b : AbiChapter) : Type 0 where
   undo : topOf (b .list) (b .count) ≡ c .undo
   typed : (b .kind < 2 ^ 32) × (b .op < 2 ^ 16) × (b .opMod < 2 ^ 8) × (b .inMod < 2 ^ 32) × (b .value < 2 ^ 64)
   listed : TypedList (b .list) (b .count)
-  result : (o : Outcome) → c .result o → b .result (outcomeWords o)
+  result : (d : Books) (o : Outcome) → c .result d o → b .result (outcomeWords (d .lists .slots) o)
 
 abbrev Alike : List Chapter → List AbiChapter → Type 0
 Alike [] [] = Unit {0}
@@ -101,7 +100,7 @@ lifted promise (c ∷ cs) (b ∷ bs) a st x h (e, m, (input, is, top), t, r, tol
       (input, one .2, one .3, one .4),
       one .5,
       record { events = rest .events; end = onBytes (rest .state) (r .end); run = rest .run; returned = read-question (rest .state) (r .end .session) (rest .held .held) (r .returned) },
-      (outcomeWords (outcomeOf (r .end .session)), a .0 .result (outcomeOf (r .end .session)) told, read-result (rest .state) (r .end .session) (rest .held .held)),
+      (outcomeWords (r .end .session .books .lists .slots) (outcomeOf (r .end .session)), a .0 .result (r .end .session .books) (outcomeOf (r .end .session)) told, read-result (rest .state) (r .end .session) (rest .held .held)),
       lifted promise cs bs (a .1) (rest .state) (r .end) (rest .held) more,
     )
 
@@ -111,11 +110,24 @@ no-list = record { records = λ i. no-record; long = omega arith; count = omega 
 
 is-open : Same opens hcaOpens
 unfolding topOf anyReserved
-is-open = record { call = refl; undo = refl; typed = (omega arith, omega arith, omega arith, omega arith, omega arith); listed = no-list; result = λ o e. ap outcomeWords e }
+is-open = record { call = refl; undo = refl; typed = (omega arith, omega arith, omega arith, omega arith, omega arith); listed = no-list; result = λ d o e. ap (outcomeWords (d .lists .slots)) e }
 
 is-fail : (c : Closing) → Same (fails c) (hcaFails (endWord c))
 unfolding topOf anyReserved
-is-fail c = record { call = refl; undo = refl; typed = (omega arith, omega arith, omega arith, omega arith, omega arith); listed = no-list; result = λ o e. (e .0, ap outcomeWords (e .1)) }
+is-fail c = record { call = refl; undo = refl; typed = (omega arith, omega arith, omega arith, omega arith, omega arith); listed = no-list; result = λ d o e. (e .0, ap (outcomeWords (d .lists .slots)) (e .1)) }
+
+-- a slot that has this buffer
+first-of : Buffer → List Buffer → Buffer
+first-of y [] = y
+first-of y (x ∷ l) = x
+
+has : (x : Slot) (y : Buffer) → inSlot x ≡ y ∷ [] → bufferOf x ≡ y
+unfolding first-of
+has x y e = by (isHeld x) e
+  where
+    by : (t : Bool) → pick t (bufferOf x ∷ []) [] ≡ y ∷ [] → bufferOf x ≡ y
+    by true q = ap (first-of (bufferOf x)) q
+    by false q = ap (first-of (bufferOf x)) q
 
 is-lend : Same lends hcaLends
 unfolding topOf anyReserved
@@ -124,12 +136,17 @@ is-lend = record {
   undo = refl;
   typed = (omega arith, omega arith, omega arith, omega arith, omega arith);
   listed = no-list;
-  result = λ o e. (e .0 .handle, e .0 .dev, e .0 .pages, ap outcomeWords (e .1));
+  result = λ d o e. (
+    e .1 .handle,
+    e .1 .dev,
+    ap (outcomeWords (d .lists .slots)) (e .2) ∙ ap (λ (y : Buffer). 6 ∷ y .handle ∷ y .dev ∷ y .pages ∷ 0 ∷ []) (has (slotAt (d .lists .slots) (e .0)) (e .1) (e .3))
+        ∙ ap (λ (n : ℕ). 6 ∷ e .1 .handle ∷ e .1 .dev ∷ n ∷ 0 ∷ []) (e .4),
+  );
 }
 
 is-command : Same commands hcaCommands
 unfolding topOf anyReserved
-is-command = record { call = refl; undo = refl; typed = (omega arith, omega arith, omega arith, omega arith, omega arith); listed = no-list; result = λ o e. (e .0, e .1, ap outcomeWords (e .2)) }
+is-command = record { call = refl; undo = refl; typed = (omega arith, omega arith, omega arith, omega arith, omega arith); listed = no-list; result = λ d o e. (e .0, e .1, ap (outcomeWords (d .lists .slots)) (e .2)) }
 
 is-undo : Same undoes hcaUndoes
 unfolding topOf anyReserved isIn
@@ -138,7 +155,7 @@ is-undo = record {
   undo = refl;
   typed = (omega arith, omega arith, omega arith, omega arith, omega arith);
   listed = record { records = one; long = omega arith; count = omega arith };
-  result = λ o e. ap outcomeWords e;
+  result = λ d o e. ap (outcomeWords (d .lists .slots)) e;
 }
   where
     one : (i : ℕ) → TypedUndo (getD (hcaUndoes .list) i noRecord)
@@ -147,98 +164,27 @@ is-undo = record {
 
 is-quiesce : Same quiesces hcaQuiesces
 unfolding topOf anyReserved
-is-quiesce = record { call = refl; undo = refl; typed = (omega arith, omega arith, omega arith, omega arith, omega arith); listed = no-list; result = λ o e. ap outcomeWords e }
+is-quiesce = record { call = refl; undo = refl; typed = (omega arith, omega arith, omega arith, omega arith, omega arith); listed = no-list; result = λ d o e. ap (outcomeWords (d .lists .slots)) e }
 
 is-close : (c : Closing) → Same (closes c) (hcaCloses (endWord c))
 unfolding topOf anyReserved
-is-close c = record { call = refl; undo = refl; typed = (omega arith, omega arith, omega arith, omega arith, omega arith); listed = no-list; result = λ o e. ap outcomeWords e }
+is-close c = record { call = refl; undo = refl; typed = (omega arith, omega arith, omega arith, omega arith, omega arith); listed = no-list; result = λ d o e. ap (outcomeWords (d .lists .slots)) e }
 
 -- THE BYTES of a fresh session
-each-alike : {A : Type 0} (P : A → Type 0) (x : A) → P x → (n : ℕ) → Each P (replicate n x)
-unfolding Each
-each-alike P x h zero = tt
-each-alike P x h (suc n) = (h, each-alike P x h n)
-
-below-zeros : (m n : ℕ) → 0 < m → Below m (replicate n 0)
-below-zeros m zero h i = h
-below-zeros m (suc n) h zero = h
-below-zeros m (suc n) h (suc i) = below-zeros m n h i
-
-fresh-fits : Fits fresh
-fresh-fits = record {
-  task = tt;
-  stage = tt;
-  ledger = record {
-    ranges = omega arith;
-    lends = omega arith;
-    original = omega arith;
-    wire = record { catas = tt };
-    held = record { inbox = tt; outbox = tt; fa = tt; aux = tt };
-    failure = tt;
-    closing = tt;
-  };
-  told = record { uar = record { index = omega arith; size = tt; how = tt }; func = record { rsvd-eqs = omega arith; max-eqs = omega arith; rsvd-uars = omega arith } };
-  cap = record {
-    rsvd-qps = omega arith;
-    rsvd-srqs = omega arith;
-    rsvd-cqs = omega arith;
-    rsvd-eqs = omega arith;
-    max-eqs = omega arith;
-    rsvd-mtts = omega arith;
-    rsvd-mpts = omega arith;
-    rsvd-uars = omega arith;
-    rsvd-pds = omega arith;
-    num-sys-eqs = omega arith;
-    ports = omega arith;
-    log-max-qp-wqes = omega arith;
-    log-max-cqes = omega arith;
-    log-min-page = omega arith;
-    flags = omega arith;
-    flags2 = omega arith;
-    bmme = omega arith;
-    uar-bytes = omega arith;
-    max-icm = omega arith;
-    entry = (refl, below-zeros (2 ^ 16) 11 (omega arith));
-  };
-  port1 = port-fits;
-  port2 = port-fits;
-  reset = record { phase = omega arith; control = tt; dwords = (refl, below-zeros (2 ^ 32) 16 (omega arith)) };
-  find = record { phase = omega arith; dwords = (refl, below-zeros (2 ^ 32) 6 (omega arith)) };
-  ranges = omega arith;
-  lends = omega arith;
-  icm-length = refl;
-  lent-length = refl;
-  icm = each-alike IcmFits _ (record { virt = omega arith; handle = omega arith; dev = omega arith; pages = omega arith }) 14;
-  lent = each-alike BufferFits _ (record { handle = omega arith; dev = omega arith; pages = omega arith }) 64;
-}
-  where
-    port-fits : PortFits noPort
-    port-fits = record {
-      num = omega arith;
-      b0 = omega arith;
-      mtu-cap = omega arith;
-      log-macs = omega arith;
-      speed = omega arith;
-      xcvr = omega arith;
-      wavelength = omega arith;
-      xcvr-code = omega arith;
-      mac = (refl, below-zeros (2 ^ 8) 6 (omega arith));
-    }
-
 abbrev room : List ℕ
-room = replicate 3336 0
+room = replicate stateBytes 0
 
-enough : 3336 ≤ length room
-enough = let l = length-replicate {A = ℕ} 3336 0 in omega (arith, l)
+enough : stateBytes ≤ length room
+enough = let l = length-replicate {A = ℕ} stateBytes 0 in omega (arith, l)
 
 fresh-held : decodeOf (freshIn room) ≡ value fresh
-fresh-held = ap (λ (b : Bool). decodeOf (pick b room (putSession room fresh))) (le-ltb (length room) 3336 enough) ∙ trip room fresh fresh-fits enough
+fresh-held = ap (λ (b : Bool). decodeOf (pick b room (putSession room fresh))) (le-ltb (length room) stateBytes enough) ∙ fresh-trip room enough
 
 module _ (n : NotEmpty) where
   held-start : Held (freshIn room) (n .start)
   held-start = record {
     held = fresh-held ∙ ap value (sym (n .fresh .session));
-    slice = encoded-slice room fresh (record { bytes = zeros 3336; long = (let l = length-replicate {A = ℕ} 3336 0 in omega (arith, l)) });
+    slice = encoded-slice room fresh (record { bytes = zeros stateBytes; long = (let l = length-replicate {A = ℕ} stateBytes 0 in omega (arith, l)) });
     box = n .inbox .bytes;
   }
 

@@ -135,7 +135,7 @@ ended (g.Close y) s h q = absurd (false≢true (sym q))
 -- while a call runs nothing is lent
 running-lends : (l : List Call) (s : Session) → isRunning (s .stage) ≡ true → (z : Option Buffer) → lentBy l s ≡ z → lentBy l s ≡ none
 running-lends l s p none e = e
-running-lends l s p (some y) e = absurd (false≢true (ap isRunning (sym (lent-given l s y e)) ∙ p))
+running-lends l s p (some y) e = absurd (false≢true (ap isRunning (sym (lent-given l s y e .1)) ∙ p))
 
 -- A CALL HAS RETURNED at a stand where Q holds of the session and of the world before what the call lends is lent. Where the mailbox was whole it stays so
 pub record Ended (k : Host) (Q : World → Rest → Type 1) (x : Stand) : Type 1 where

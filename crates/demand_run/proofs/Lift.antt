@@ -1,6 +1,6 @@
 -- A RUN BY VALUE GOES ON BYTES: an event that is taken by value is taken on bytes that hold the
 -- session, and leaves bytes that hold the session behind it.
-use Prim.Native.Nat.{ℕ, zero, suc, _≤_, _<_, _^_}
+use Prim.Native.Nat.{ℕ, zero, suc, _+_, _*_, _≤_, _<_, _^_}
 use native.Mathlib.Omega.{arith}
 use mathlib.Core.Bool.{Bool, true, false, _&&_, false≢true}
 use mathlib.Core.List.{List, [], _∷_}
@@ -11,13 +11,40 @@ use lib.ListN.{length, take, drop, getD, replicate, length-replicate, getD-repli
 use borrow.Author.Tests.{lt-ltb, eq-eqb, eqb-true, leb-true}
 use Rattle.fields.specs.Outcome.{Outcome, value, refused, pick}
 use Rattle.fields.proofs.Laws.{Bytes}
+use Rattle.words.specs.Places.{SLOT, capAt, port1At, port2At, resetAt, findAt, slotsAt, stateBytes}
 use Rattle.words.specs.Words.{putWords}
 use Rattle.words.proofs.Laws.{length-words}
+use Rattle.words_task.specs.Coding.{taskWords}
+use Rattle.words_books.specs.Coding.{slotWords}
+use Rattle.words_info.specs.Coding.{capWords, portWords}
+use Rattle.words_beside.specs.Coding.{resetWords, findWords}
 use Rattle.words_calls.specs.Calls.{heardOf, turnIn}
-use Rattle.words_session.specs.Image.{sessionWords, decodeOf, encodedIn, putSession}
+use Rattle.words_session.specs.Image.{coreOf, headWords, sessionWords, decodeOf, encodedIn}
+use Rattle.behind.specs.Behind.{putPart, slotPut, notedIn, begunIn}
+use Rattle.intask.specs.InTask.{besideIn}
+use Rattle.booking.specs.Booking.{isDeal, leftAt, slotLeft}
+use Rattle.opening.specs.Notes.{noteIn}
+use Rattle.bytes_plan.specs.Left.{headedIn, leftIn, answerLeft, clearedIn, callLeft}
+use Rattle.bars.specs.declared.Size.{Size}
+use Rattle.reset.specs.Steps as rs
+use Rattle.uar.specs.Steps as us
+use Rattle.work.specs.Work.{workStepOf}
+use Rattle.work.specs.declared.Ending.{Ending}
+use Rattle.work.specs.declared.Ending.the-variants as e
+use Rattle.work.specs.declared.Task.{Task}
+use Rattle.work.specs.declared.Task.the-variants as t
+use Rattle.work.specs.declared.WorkStep.{WorkStep}
 use Rattle.pci.specs.Script.{Ask}
 use Rattle.pci.specs.declared.Answer.{Answer}
 use Rattle.pci.specs.declared.Answer.the-variants as a
+use Rattle.session.specs.Session.{fresh, slotAt, INBOX, OUTBOX}
+use Rattle.session.specs.Course.{Place, neither, inbox, outbox, slot}
+use Rattle.session.specs.Core.{isReset, isFind, capIn, portIn}
+use Rattle.session.specs.declared.Books.{Books}
+use Rattle.session.specs.declared.Note.{Note}
+use Rattle.session.specs.declared.Note.the-variants as n
+use Rattle.session.specs.declared.Slot.{Slot}
+use Rattle.session.specs.declared.Stage.{Stage}
 use Rattle.session.specs.declared.Top.{Top}
 use Rattle.session.specs.declared.Failure.{Failure}
 use Rattle.session.specs.declared.Failure.the-variants as f
@@ -25,13 +52,15 @@ use Rattle.session.specs.declared.Session.{Session}
 use Rattle.undo.specs.List.{undoOf, none as noRecord, topOf, topAt, anyReserved}
 use Rattle.undo.proofs.Laws.{top-suc}
 use Rattle.undo.specs.declared.Undo.{Undo}
-use Rattle.fw_plan.specs.Calls.{asksOf, inTime, isLent, answerable, answerOf, answerIn, answerOut, stepOf, stepIn, refusedOf}
+use Rattle.fw_plan.specs.Calls.{asksOf, wants, bookedBy, inTime, isLent, answerable, answerOf, answerIn, answerOut, stepOf, stepIn, refusedOf}
 use Rattle.fw_plan.specs.declared.Turn.{Turn}
 use Rattle.calls_plan.specs.Calls.{callable, hasRoom, lentFor, barred, unless, begunTurn, begunInbox, callOf, callIn, callOut}
 use Rattle.calls_plan.specs.declared.Call.{Call}
+use Rattle.calls_plan.specs.declared.Call.the-variants as k
 use Rattle.abi.specs.Turns.{After, after, codeBy, stateBy, outBy, turned, onSession, callKnown, answerKnown, called, answered}
 use Rattle.abi.specs.Calls.{callFrom, wantedBy, made, heardBy, answer, told}
 use Rattle.abi.specs.Kept.{givenBy, nextBy, callNext, answerNext, knownNext, wantedNext, heardNext, Keeps, Holds}
+use Rattle.abi.proofs.Turns.{head-known}
 use Rattle.abi.proofs.Poll.{poll-is-whole}
 use Rattle.card.specs.Card.{World}
 use Rattle.card_run.specs.Can.{Slice, SizedAnswer, noUndo, Whole}
@@ -159,10 +188,10 @@ out-slice : Slice blankOut
 out-slice = record { bytes = zeros 40; long = (let l = length-replicate {A = ℕ} 40 0 in omega (arith, l)) }
 
 -- A TURN THAT IS TAKEN, on bytes
-taken-is : (b : Bool) (t : Turn) (i' o' st i o : List ℕ) → b ≡ true → t .refusal ≡ f.Nothing → turned b t i' o' st i o blankOut ≡ after 0 (encodedIn st (t .session)) i' o' (turnIn blankOut (t .question) (t .undo))
-taken-is b t i' o' st i o p q =
-    ap (λ (d : Bool). turned d t i' o' st i o blankOut) p
-    ∙ ap (λ (z : Failure). after (codeBy z) (stateBy z (t .session) st) i' o' (outBy z (t .question) (t .undo) blankOut)) q
+taken-is : (b : Bool) (t : Turn) (s' i' o' st i o : List ℕ) → b ≡ true → t .refusal ≡ f.Nothing → turned b t s' i' o' st i o blankOut ≡ after 0 s' i' o' (turnIn blankOut (t .question) (t .undo))
+taken-is b t s' i' o' st i o p q =
+    ap (λ (d : Bool). turned d t s' i' o' st i o blankOut) p
+    ∙ ap (λ (z : Failure). after (codeBy z) (stateBy z s' st) i' o' (outBy z (t .question) (t .undo) blankOut)) q
 
 next-is : (b : Bool) (t : Turn) (s : Session) → b ≡ true → t .refusal ≡ f.Nothing → nextBy b (ltb (length blankOut) 40) t s ≡ t .session
 next-is b t s p q = ap (λ (d : Bool). nextBy d (ltb (length blankOut) 40) t s) p ∙ ap (λ (z : Failure). givenBy z (t .session) s) q
@@ -176,12 +205,81 @@ pub record Held (st : List ℕ) (x : Stand) : Type 1 where
   pub slice : Slice st
   pub box : Bytes (x .inbox)
 
+-- what is written of them are bytes, and not more
+picked : (b : Bool) (x y : List ℕ) → Slice x → Slice y → Slice (pick b x y)
+picked true x y h g = h
+picked false x y h g = g
+
+part-slice : (k : ℕ) (ws st : List ℕ) → Slice st → Slice (putPart k ws st)
+part-slice k ws st h =
+    picked (ltb (length st) stateBytes) st (putWords st k ws) h
+    (record { bytes = words-bytes st k ws (h .bytes); long = (let l = length-words st k ws in let n = h .long in omega (arith, l, n)) })
+
 pub encoded-slice : (st : List ℕ) (s : Session) → Slice st → Slice (encodedIn st s)
-encoded-slice st s h = by (ltb (length st) 3336)
-  where
-    by : (b : Bool) → Slice (pick b st (putSession st s))
-    by true = h
-    by false = record { bytes = words-bytes st 0 (sessionWords s) (h .bytes); long = (let l = length-words st 0 (sessionWords s) in let n = h .long in omega (arith, l, n)) }
+encoded-slice st s h = part-slice 0 (sessionWords s) st h
+
+slot-slice : (i : ℕ) (v : Slot) (st : List ℕ) → Slice st → Slice (slotPut i v st)
+slot-slice i v st h = picked (ltb i 82) _ st (part-slice (slotsAt + i * SLOT) (slotWords v) st h) h
+
+place-slice : (p : Place) (b : Books) (st : List ℕ) → Slice st → Slice (leftAt p b st)
+place-slice neither b st h = h
+place-slice inbox b st h = slot-slice INBOX (slotAt (b .lists .slots) INBOX) st h
+place-slice outbox b st h = slot-slice OUTBOX (slotAt (b .lists .slots) OUTBOX) st h
+place-slice (slot i w) b st h = slot-slice i (slotAt (b .lists .slots) i) st h
+
+book-slice : (x : Session) (v : Answer) (st : List ℕ) → Slice st → Slice (slotLeft x v st)
+book-slice x v st h = picked (isDeal (asksOf x)) _ st (place-slice (wants x) (bookedBy (wants x) (asksOf x) v (x .books)) st h) h
+
+beside-slice : (k : Task) (s : WorkStep) (st : List ℕ) → Slice st → Slice (besideIn k s st)
+beside-slice t.Rest s st h = h
+beside-slice (t.Attr y) s st h = h
+beside-slice (t.Claim y) s st h = h
+beside-slice t.Reset s st h = part-slice resetAt (resetWords (s .work .reset)) st h
+beside-slice t.Bar s st h = part-slice findAt (findWords (s .work .find)) st h
+beside-slice (t.Make y) s st h = h
+beside-slice (t.Free y) s st h = h
+beside-slice t.Look s st h = h
+beside-slice (t.Cmd y) s st h = h
+beside-slice (t.Part y) s st h = h
+
+begun-slice : (g : Stage) (k : Task) (st : List ℕ) → Slice st → Slice (begunIn g k st)
+begun-slice g t.Rest st h = h
+begun-slice g (t.Attr y) st h = h
+begun-slice g (t.Claim y) st h = h
+begun-slice g t.Reset st h = picked (isReset g) _ st (part-slice resetAt (resetWords rs.started) st h) h
+begun-slice g t.Bar st h = picked (isFind g) _ st (part-slice findAt (findWords us.started) st h) h
+begun-slice g (t.Make y) st h = h
+begun-slice g (t.Free y) st h = h
+begun-slice g t.Look st h = h
+begun-slice g (t.Cmd y) st h = h
+begun-slice g (t.Part y) st h = h
+
+noted-slice : (y : Note) (z : Size) (o st : List ℕ) → Slice st → Slice (notedIn y z o st)
+noted-slice n.Nothing z o st h = h
+noted-slice n.Cap z o st h = part-slice capAt (capWords (capIn o z)) st h
+noted-slice (n.Port i) z o st h = part-slice (pick (eqb i 1) port1At port2At) (portWords (portIn o i)) st h
+
+headed-slice : (z : Session) (st : List ℕ) → Slice st → Slice (headedIn z st)
+headed-slice z st h = part-slice 0 (headWords (coreOf z)) (begunIn (z .stage) (z .work .task) st) (begun-slice (z .stage) (z .work .task) st h)
+
+left-slice : (x z : Session) (o : List ℕ) (e : Ending) (st : List ℕ) → Slice st → Slice (leftIn x z o e st)
+left-slice x z o e.Going st h = part-slice 0 (taskWords (z .work .task)) st h
+left-slice x z o (e.Ended y) st h = headed-slice z _ (noted-slice (noteIn x y o) (x .info .uar .size) o st h)
+
+answer-slice : (x : Session) (v : Answer) (r o : List ℕ) (z : Session) (st : List ℕ) → Slice st → Slice (answerLeft x v r o z st)
+answer-slice x v r o z st h =
+    left-slice x z o (workStepOf (x .work) v r .ending) _ (beside-slice (x .work .task) (workStepOf (x .work) v r) (slotLeft x v st) (book-slice x v st h))
+
+cleared-slice : (c : Call) (st : List ℕ) → Slice st → Slice (clearedIn c st)
+cleared-slice k.Open st h = encoded-slice st fresh h
+cleared-slice (k.Command y) st h = h
+cleared-slice (k.Lend bytes) st h = h
+cleared-slice (k.UndoTo mark r) st h = h
+cleared-slice k.Quiesce st h = h
+cleared-slice k.Close st h = h
+
+call-slice : (c : Call) (z : Session) (st : List ℕ) → Slice st → Slice (callLeft c z st)
+call-slice c z st h = headed-slice z (clearedIn c st) (cleared-slice c st h)
 
 -- ONE EVENT, where its numbers stand for the one by value
 module _ (st : List ℕ) (x m : Stand) (h : Held st x) (ev : Event) (t : Accepts x ev m) (call : AbiCall) (list : List Undo) (count : ℕ) where
@@ -195,7 +293,8 @@ module _ (st : List ℕ) (x m : Stand) (h : Held st x) (ev : Event) (t : Accepts
     input : inputOf here ≡ value (ev .call)
     out : List ℕ
     told : List ℕ
-    leaves : leaves st here ≡ after 0 (encodedIn st (turn-of .session)) (inboxBy (ev .call) (x .session) (ev .inbox) (ev .outbox) (ev .undo)) out told
+    state : List ℕ
+    leaves : leaves st here ≡ after 0 state (inboxBy (ev .call) (x .session) (ev .inbox) (ev .outbox) (ev .undo)) out told
     next : next here (x .session) ≡ turn-of .session
     room : length (ev .inbox) < 2 ^ 32
     outs : length (ev .outbox) ≡ 4096
@@ -203,6 +302,7 @@ module _ (st : List ℕ) (x m : Stand) (h : Held st x) (ev : Event) (t : Accepts
     typed : TypedCall call
     sized : AbiSized call
     listed : TypedList list count
+    slice : Slice st → Slice state
 
   abbrev left : List ℕ
   left = leaves st here .state
@@ -244,7 +344,7 @@ module _ (st : List ℕ) (x m : Stand) (h : Held st x) (ev : Event) (t : Accepts
     },
     record {
       held = holds (x .session) (h .held) ∙ ap value (z .next ∙ sym (t .step .session));
-      slice = subst Slice (sym (ap (λ (y : After). y .state) (z .leaves))) (encoded-slice st (turn-of .session) (h .slice));
+      slice = subst Slice (sym (ap (λ (y : After). y .state) (z .leaves))) (z .slice (h .slice));
       box = subst Bytes (sym box-left) (z .box (subst Bytes (sym same-box) (h .box)));
     },
   )
@@ -289,12 +389,14 @@ module _ (st : List ℕ) (x m : Stand) (h : Held st x) (v : Answer) (r i o : Lis
   answer-same = record {
     input = ap (λ (z : Outcome Answer). answerWith z r) (heard v (t .typed .0));
     out = answerOut (x .session) v r i o u;
+    state = answerLeft (x .session) v r o (answerOf (x .session) v r i o u .session) st;
+    slice = answer-slice (x .session) v r o (answerOf (x .session) v r i o u .session) st;
     told = turnIn blankOut (answerOf (x .session) v r i o u .question) (answerOf (x .session) v r i o u .undo);
     leaves =
         ap (λ (z : Outcome Answer). heardBy z r (topOf (listOf u) (u .count)) st i o blankOut) (heard v (t .typed .0))
         ∙ ap (λ (z : Top). answer v r z st i o blankOut) (top-is u (leb-true (u .count) 256 (t .lent .undo)) (t .lent .listed)) ∙ poll-is-whole v r u st i o blankOut (x .session) (h .slice .bytes) (h .held)
-        ∙ ap (λ (z : Outcome Session). onSession z (λ y. answerKnown y v r u st i o blankOut) st i o blankOut) (h .held)
-        ∙ taken-is (answerable (x .session) v) (answerOf (x .session) v r i o u) (answerIn (x .session) v r i o u) (answerOut (x .session) v r i o u) st i o (in-answer .0) (t .taken);
+        ∙ ap (λ (z : Outcome Session). onSession z (λ y. answerKnown y v r u st i o blankOut) st i o blankOut) (head-known st (x .session) (h .held))
+        ∙ taken-is (answerable (x .session) v) (answerOf (x .session) v r i o u) (answerLeft (x .session) v r o (answerOf (x .session) v r i o u .session) st) (answerIn (x .session) v r i o u) (answerOut (x .session) v r i o u) st i o (in-answer .0) (t .taken);
     next =
         ap (λ (z : Outcome Answer). heardNext z r (topOf (listOf u) (u .count)) i o blankOut (x .session)) (heard v (t .typed .0))
         ∙ ap (λ (z : Top). answerNext v r z i o blankOut (x .session)) (top-is u (leb-true (u .count) 256 (t .lent .undo)) (t .lent .listed))
@@ -342,11 +444,13 @@ module _ (st : List ℕ) (x m : Stand) (h : Held st x) (c : Call) (y i o : List 
   call-same = record {
     input = ap (λ (z : Outcome Call). callWith z y) named;
     out = callOut (x .session) c y i o u;
+    state = callLeft c (callOf (x .session) c y i o u .session) st;
+    slice = call-slice c (callOf (x .session) c y i o u .session) st;
     told = turnIn blankOut (callOf (x .session) c y i o u .question) (callOf (x .session) c y i o u .undo);
     leaves =
         ap (λ (z : Outcome Call). wantedBy z y (topOf l count) st i o blankOut) named ∙ ap (λ (z : Top). called c y z st i o blankOut) tops
         ∙ ap (λ (z : Outcome Session). onSession z (λ s. callKnown s c y u st i o blankOut) st i o blankOut) (h .held)
-        ∙ taken-is (callable (x .session) c) (callOf (x .session) c y i o u) (callIn (x .session) c y i o u) (callOut (x .session) c y i o u) st i o (in-call .0) (t .taken);
+        ∙ taken-is (callable (x .session) c) (callOf (x .session) c y i o u) (callLeft c (callOf (x .session) c y i o u .session) st) (callIn (x .session) c y i o u) (callOut (x .session) c y i o u) st i o (in-call .0) (t .taken);
     next =
         ap (λ (z : Outcome Call). wantedNext z y (topOf l count) i o blankOut (x .session)) named ∙ ap (λ (z : Top). callNext c y z i o blankOut (x .session)) tops
         ∙ next-is (callable (x .session) c) (callOf (x .session) c y i o u) (x .session) (in-call .0) (t .taken);

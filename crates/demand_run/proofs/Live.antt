@@ -10,6 +10,7 @@ use Rattle.dma.specs.declared.Buffer.{Buffer}
 use Rattle.hcr.specs.Words.{isIn}
 use Rattle.session.specs.Session.{fresh}
 use Rattle.session.specs.Course.{here, Lent, Rest, restOf}
+use Rattle.session.specs.declared.Books.{Books}
 use Rattle.session.specs.declared.Gave.{Gave}
 use Rattle.session.specs.declared.Gave.the-variants as v
 use Rattle.session.specs.declared.Stage.the-variants as g
@@ -29,6 +30,7 @@ use Rattle.calls_plan.specs.declared.Call.the-variants as k
 use Rattle.calls_plan.proofs.Begins.{begins}
 use Rattle.card.specs.Card.{same, World}
 use Rattle.card.proofs.Bools.{and-true}
+use Rattle.card_calls.specs.Holding.{Entries}
 use Rattle.card_run.specs.Can.{Slice, noUndo, Whole, CanCourse}
 use Rattle.card_run.proofs.Steps.{no-bytes}
 use Rattle.card_run.proofs.Courses.{lendable, empty, nil, empty-length, whole, IsOpen, IsEnded}
@@ -39,7 +41,7 @@ use Rattle.card_run.proofs.Closing as co
 use Rattle.demand.specs.Events.{callMake, asked, Stand, Happens, SameBox, boxLeft, callsBy, beganBy, beganNow, lentBy, lentNow, lendsTo, SizedCall, Step}
 use Rattle.demand.specs.Demand.{Start}
 use Rattle.demand.proofs.Inbox.{call-length}
-use Rattle.demand.proofs.Demand.{Inv, in-good, begun-lends, begun-taken, made-by, starts}
+use Rattle.demand.proofs.Demand.{Inv, in-good, begun-lends, begun-taken, at-stage, made-by, starts}
 use Rattle.demand_run.specs.Run.{Accepts, Chapter, Does, opens, fails, lends, nop, commands, oneUndo, undoes, quiesces, closes, NotEmpty}
 use Rattle.demand_run.proofs.Ends.{event, lent-good, along}
 
@@ -103,7 +105,7 @@ lentIn c = record { outbox = empty; undo = c .undo }
 
 chapter : (c : Chapter) (l : List Chapter) (x : Stand) → inv x → length (x .inbox) ≡ 4096 → isTime (x .session .stage) (c .call) ≡ true → hasRoom (c .call) [] ≡ true → barred (x .session) (c .call) ≡ f.Nothing
     → SizedCall (c .call) → Whole (lentIn c) → (Q : World → Rest → Type 1) → CanCourse (x .world) (courseFor (c .call) (x .session) [] (here (x .inbox) empty (c .undo))) Q
-    → ((y : Stand) (w : World) → inv y → length (y .inbox) ≡ 4096 → y .world ≡ lendsTo (lentBy (y .calls) (y .session)) w → Q w (restOf (y .session)) → c .result (outcomeOf (y .session)) × Does l y)
+    → ((y : Stand) (w : World) → inv y → length (y .inbox) ≡ 4096 → y .world ≡ lendsTo (lentBy (y .calls) (y .session)) w → Q w (restOf (y .session)) → c .result (y .session .books) (outcomeOf (y .session)) × Does l y)
     → Does (c ∷ l) x
 chapter c l x i n t room free sized ok Q can more =
     let time = and-true (isSession (x .session)) (isTime (x .session .stage) (c .call)) (i .alive .0) t in
@@ -131,7 +133,7 @@ told-end : (s : Session) (y : Failure) (c : Closing) (w : World) → IsEnded y c
 told-end s y c w e = ap (outcomeAt (s .failure) (s .closing)) (e .stage) ∙ ap (λ (h : Failure). endedAs h (s .closing)) (e .failure) ∙ ap (endedAs y) (e .closing)
 
 -- what is lent at its end leaves a session open
-open-lent : (P : Gave → Type 0) (l : ℕ) (b : Option Buffer) (w : World) (r : Rest) → IsOpen P l w r → IsOpen P l (lendsTo b w) r
+open-lent : (P : Books → Gave → Type 0) (l : ℕ) (b : Option Buffer) (w : World) (r : Rest) → IsOpen P l w r → IsOpen P l (lendsTo b w) r
 open-lent P l none w r x = x
 open-lent P l (some b) w r x = record {
   gave = x .gave;
@@ -174,18 +176,18 @@ does-fail : (y : _) (c : Closing) → CanCourse world₀ (courseFor k.Open fresh
 does-fail y c can = chapter (fails c) [] start started empty-length refl refl refl tt whole (IsEnded (f.By y) c) can (λ x w i n e q. ((y, told-end (x .session) (f.By y) c w q), tt))
 
 -- A CLIENT'S CALL on an open session
-module _ (P : Gave → Type 0) (a : ℕ) (x : Stand) (s : Sits (IsOpen P a) x) where
+module _ (P : Books → Gave → Type 0) (a : ℕ) (x : Stand) (s : Sits (IsOpen P a) x) where
   open-now : isOpen (x .session .stage) ≡ true
   open-now = ap isOpen (s .is .stage)
 
   -- it leaves the session open
   does-client : (c : Chapter) (l : List Chapter) → isTime (x .session .stage) (c .call) ≡ true → hasRoom (c .call) [] ≡ true → barred (x .session) (c .call) ≡ f.Nothing → SizedCall (c .call) → Whole (lentIn c)
-      → (R : Gave → Type 0) (b : ℕ) → CanCourse (x .world) (courseFor (c .call) (x .session) [] (here (x .inbox) empty (c .undo))) (IsOpen R b)
-      → ((y : Gave) (o : Outcome) → R y → o ≡ u.Opened y → c .result o) → ((y : Stand) → Sits (IsOpen R b) y → Does l y) → Does (c ∷ l) x
+      → (R : Books → Gave → Type 0) (b : ℕ) → CanCourse (x .world) (courseFor (c .call) (x .session) [] (here (x .inbox) empty (c .undo))) (IsOpen R b)
+      → ((d : Books) (y : Gave) (o : Outcome) → R d y → o ≡ u.Opened y → c .result d o) → ((y : Stand) → Sits (IsOpen R b) y → Does l y) → Does (c ∷ l) x
   does-client c l t room free sized ok R b can result more =
       chapter c l x (s .held) (s .long) t room free sized ok (IsOpen R b) can
       (λ y w i n e q. (
-        result (q .gave) (outcomeOf (y .session)) (q .so) (told (y .session) (q .gave) (q .stage)),
+        result (y .session .books) (q .gave) (outcomeOf (y .session)) (q .so) (told (y .session) (q .gave) (q .stage)),
         more y (record { held = i; long = n; is = subst (λ (h : World). IsOpen R b h (restOf (y .session))) (sym e) (open-lent R b (lentBy (y .calls) (y .session)) w (restOf (y .session)) q) }),
       ))
 
@@ -194,24 +196,27 @@ module _ (P : Gave → Type 0) (a : ℕ) (x : Stand) (s : Sits (IsOpen P a) x) w
   does-command l more =
       does-client commands l open-now refl refl (record { opMod = omega arith; inMod = omega arith; inParam = omega arith }) whole cl.IsCommand a
       (cl.commands (x .session .info) (x .session .failure) (x .session .closing) a nop [] (x .session .books) (here (x .inbox) empty noUndo) (x .world) (omega arith) (omega arith) (s .is .up))
-      (λ y o r e. (r .0, r .1, e ∙ ap u.Opened (r .2))) more
+      (λ d y o r e. (r .0, r .1, e ∙ ap u.Opened (r .2))) more
 
   does-undo : (l : List Chapter) → ((y : Stand) → Sits (IsOpen IsNothing a) y → Does l y) → Does (undoes ∷ l) x
   unfolding isIn
   does-undo l more =
       does-client undoes l open-now refl refl tt (lendable empty nil empty-length oneUndo (record { opMod = omega arith; inMod = omega arith; inParam = omega arith }) refl (omega arith) (λ e. let z : ⊥ = omega (arith, e) in absurd z)) IsNothing a
       (cl.undoes (x .session .info) (x .session .failure) (x .session .closing) a (x .session .books) (x .inbox) empty oneUndo (x .world) refl refl (omega arith) (omega arith) (s .is .up))
-      (λ y o r e. e ∙ ap u.Opened r) more
+      (λ d y o r e. e ∙ ap u.Opened r) more
 
 -- a lend needs room on the host, which an opening leaves
 ready-open : (x : Stand) → Sits Ready x → Sits (IsOpen IsNothing 0) x
 ready-open x s = record { held = s .held; long = s .long; is = s .is .isOpen }
 
-does-lend : (x : Stand) → Sits Ready x → (l : List Chapter) → ((y : Stand) → Sits (IsOpen cl.IsLent 1) y → Does l y) → Does (lends ∷ l) x
+does-lend : (x : Stand) → Sits Ready x → (l : List Chapter) → ((y : Stand) → Sits (IsOpen (cl.IsLent 2) 1) y → Does l y) → Does (lends ∷ l) x
 does-lend x s l more =
-    does-client IsNothing 0 x (ready-open x s) lends l (ap isOpen (s .is .isOpen .stage)) refl (ap (λ (n : ℕ). byList n 5000) (s .is .isOpen .up .lends)) tt whole cl.IsLent 1
-    (cl.lends (x .session .info) (x .session .failure) (x .session .closing) 5000 2 (x .session .books) (here (x .inbox) empty noUndo) (x .world) refl (omega arith) (s .is .spare) (s .is .isOpen .up))
-    (λ y o r e. (r .0, e ∙ ap u.Opened (r .1))) more
+    does-client IsNothing 0 x (ready-open x s) lends l (ap isOpen (s .is .isOpen .stage)) refl (ap (λ (n : ℕ). byList n 5000) (s .is .isOpen .up .lends)) tt whole (cl.IsLent 2) 1
+    (cl.lends (x .session .info) (x .session .failure) (x .session .closing) 5000 2 (x .session .books) (here (x .inbox) empty noUndo) (x .world) refl (omega arith) (s .is .spare) entries (s .is .isOpen .up))
+    (λ d y o r e. (r .0, r .1, e ∙ ap u.Opened (r .2), r .3, r .4)) more
+  where
+    entries : Entries (x .session .books)
+    entries = at-stage host₀ refl refl refl x (g.Open (s .is .isOpen .gave)) (s .is .isOpen .stage) refl (s .held) .0 .entries
 
 -- A QUIESCE
 does-quiesce : (x : Stand) → Sits Ready x → (l : List Chapter) → ((y : Stand) → Sits IsQuiet y → Does l y) → Does (quiesces ∷ l) x
@@ -225,7 +230,7 @@ does-close : (c : Closing) (x : Stand) → inv x → length (x .inbox) ≡ 4096 
     → CanCourse (x .world) (courseFor k.Close (x .session) [] (here (x .inbox) empty noUndo)) (IsEnded f.Nothing c) → Does (closes c ∷ []) x
 does-close c x i n t can = chapter (closes c) [] x i n t refl refl tt whole (IsEnded f.Nothing c) can (λ y w j m e q. (told-end (y .session) f.Nothing c w q, tt))
 
-close-clean : (P : Gave → Type 0) (a : ℕ) (x : Stand) → Sits (IsOpen P a) x → Does (closes z.Clean ∷ []) x
+close-clean : (P : Books → Gave → Type 0) (a : ℕ) (x : Stand) → Sits (IsOpen P a) x → Does (closes z.Clean ∷ []) x
 close-clean P a x s =
     does-close z.Clean x (s .held) (s .long) (ap isOpen (s .is .stage)) (closes-clean (x .session .info) f.Nothing a (x .session .books) (x .inbox) empty (x .world) (s .is .up))
 
@@ -248,8 +253,8 @@ close-quiet x s =
 undo-close : (x : Stand) → Sits (IsOpen cl.IsCommand 1) x → Does (undoes ∷ closes z.Clean ∷ []) x
 undo-close x s = does-undo cl.IsCommand 1 x s (closes z.Clean ∷ []) (close-clean IsNothing 1)
 
-command-on : (x : Stand) → Sits (IsOpen cl.IsLent 1) x → Does (commands ∷ undoes ∷ closes z.Clean ∷ []) x
-command-on x s = does-command cl.IsLent 1 x s (undoes ∷ closes z.Clean ∷ []) undo-close
+command-on : (x : Stand) → Sits (IsOpen (cl.IsLent 2) 1) x → Does (commands ∷ undoes ∷ closes z.Clean ∷ []) x
+command-on x s = does-command (cl.IsLent 2) 1 x s (undoes ∷ closes z.Clean ∷ []) undo-close
 
 lend-on : (x : Stand) → Sits Ready x → Does (lends ∷ commands ∷ undoes ∷ closes z.Clean ∷ []) x
 lend-on x s = does-lend x s (commands ∷ undoes ∷ closes z.Clean ∷ []) command-on

@@ -29,7 +29,7 @@ use Rattle.session.specs.declared.Fill.the-variants as w
 use Rattle.session.specs.declared.Session.{Session}
 use Rattle.opening_plan.specs.Values.{layoutIn}
 use Rattle.client_plan.specs.Client.{over, takesInput}
-use Rattle.fw_plan.specs.Calls.{planOf, withWork, filledIn, wipedIn, wipeOf, stepBoxIn, stepIn}
+use Rattle.fw_plan.specs.Calls.{planOf, withWork, bookedOf, filledIn, wipedIn, wipeOf, stepBoxIn, stepIn}
 use Rattle.fw_plan.specs.declared.Wipe.{Wipe}
 use Rattle.fw_plan.specs.declared.Wipe.the-variants as v
 use Rattle.calls_plan.specs.Calls.{readyIn, planFor, begunInbox}
@@ -99,7 +99,7 @@ box-bytes s a y i o top (e.Ended z) b = filled-bytes (planOf (withWork s y) z o 
 
 pub step-bytes : (s : Session) (a : Answer) (r i o : List ℕ) (top : Top) → Bytes i → Bytes (stepIn s a r i o top)
 unfolding stepIn
-step-bytes s a r i o top b = box-bytes s a (workStepOf (s .work) a r .work) i o top (workStepOf (s .work) a r .ending) b
+step-bytes s a r i o top b = box-bytes (bookedOf s a) a (workStepOf (s .work) a r .work) i o top (workStepOf (s .work) a r .ending) b
 
 ready-bytes : (c : Call) (y i : List ℕ) → Bytes y → Bytes i → Bytes (readyIn c y i)
 ready-bytes k.Open y i a b = b

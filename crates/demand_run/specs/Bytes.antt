@@ -9,6 +9,7 @@ use mathlib.Core.List.{List, [], _∷_}
 use mathlib.Core.Path.{_≡_}
 use lib.ListN.{length, getD, replicate}
 use Rattle.fields.specs.Outcome.{value}
+use Rattle.words.specs.Places.{stateBytes}
 use Rattle.words_session.specs.Image.{decodeOf}
 use Rattle.results.specs.Results.{refusedWords}
 use Rattle.pci.specs.declared.Refusal.{Refusal}
@@ -109,9 +110,9 @@ hcaOpens = simple 0 0 (λ w. w ≡ 2 ∷ 0 ∷ 0 ∷ 0 ∷ 0 ∷ [])
 abbrev pub hcaFails : ℕ → AbiChapter
 hcaFails n = simple 0 0 (λ w. (y : Refusal) × (w ≡ refusedWords 3 y n))
 
--- a buffer is lent, NOP is good, one record is undone
+-- a buffer of two pages is lent, NOP is good, one record is undone
 abbrev pub hcaLends : AbiChapter
-hcaLends = simple 6 5000 (λ w. (handle dev pages : ℕ) × (w ≡ 6 ∷ handle ∷ dev ∷ pages ∷ 0 ∷ []))
+hcaLends = simple 6 5000 (λ w. (handle dev : ℕ) × (w ≡ 6 ∷ handle ∷ dev ∷ 2 ∷ 0 ∷ []))
 
 abbrev pub hcaCommands : AbiChapter
 hcaCommands = record {
@@ -146,7 +147,7 @@ hcaCloses n = simple 9 0 (λ w. w ≡ 4 ∷ 0 ∷ 0 ∷ 0 ∷ n ∷ [])
 -- THE STATEMENT: the seven stories of `NotEmpty`
 pub record BytesStories : Type 1 where
   pub start : AbiStand
-  pub bytes : start .state ≡ freshIn (replicate 3336 0)
+  pub bytes : start .state ≡ freshIn (replicate stateBytes 0)
   pub fresh : AbiStart start
   pub good : AbiDoes (hcaOpens ∷ hcaLends ∷ hcaCommands ∷ hcaUndoes ∷ hcaCloses 0 ∷ []) start
   pub reset : AbiDoes (hcaOpens ∷ hcaCloses 1 ∷ []) start

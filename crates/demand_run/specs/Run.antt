@@ -8,7 +8,9 @@ use mathlib.Core.List.{List, [], _∷_}
 use mathlib.Core.Path.{_≡_}
 use Rattle.dma.specs.declared.Buffer.{Buffer}
 use Rattle.pci.specs.declared.Refusal.{Refusal}
+use Rattle.session.specs.Session.{slotAt, inSlot}
 use Rattle.session.specs.declared.Top.{Top}
+use Rattle.session.specs.declared.Books.{Books}
 use Rattle.session.specs.declared.Form.the-variants as fm
 use Rattle.session.specs.declared.Gave.the-variants as v
 use Rattle.session.specs.declared.Failure.the-variants as f
@@ -62,11 +64,11 @@ abbrev pub Finishes : Type 1
 Finishes = (x : Stand) → Start x → (es : List Event) (y : Stand) → Run es x y → Returns y (y .calls)
 
 -- A STORY, chapter by chapter: a call, the undo list that is lent with it, and what hca_result
--- tells when the call has returned
+-- tells when the call has returned, by the books as they are then
 pub record Chapter : Type 1 where
   pub call : Call
   pub undo : Top
-  pub result : Outcome → Type 0
+  pub result : Books → Outcome → Type 0
 
 -- the event is the call
 abbrev pub Begins : Chapter → Event → Type 0
@@ -77,38 +79,43 @@ abbrev pub Does : List Chapter → Stand → Type 1
 Does [] x = Unit {1}
 Does (c ∷ l) x =
     (e : Event) × (m : Stand) × Begins c e × Accepts x e m
-    × (r : Returns m (c .call ∷ x .calls)) × c .result (outcomeOf (r .end .session)) × Does l (r .end)
+    × (r : Returns m (c .call ∷ x .calls)) × c .result (r .end .session .books) (outcomeOf (r .end .session)) × Does l (r .end)
 
 -- THE CHAPTERS. An opening is good, or fails with this result of its closing
 abbrev pub opens : Chapter
-opens = record { call = k.Open; undo = noUndo; result = λ o. o ≡ u.Opened v.Nothing }
+opens = record { call = k.Open; undo = noUndo; result = λ b o. o ≡ u.Opened v.Nothing }
 
 abbrev pub fails : Closing → Chapter
-fails c = record { call = k.Open; undo = noUndo; result = λ o. (y : Refusal) × (o ≡ u.Failed y c) }
+fails c = record { call = k.Open; undo = noUndo; result = λ b o. (y : Refusal) × (o ≡ u.Failed y c) }
 
--- a buffer is lent
+-- a buffer of two pages is lent: the result tells its slot, which has it
 abbrev pub lends : Chapter
-lends = record { call = k.Lend 5000; undo = noUndo; result = λ o. (b : Buffer) × (o ≡ u.Opened (v.Lent b)) }
+lends =
+    record {
+      call = k.Lend 5000;
+      undo = noUndo;
+      result = λ b o. (i : ℕ) × (y : Buffer) × (o ≡ u.Opened (v.Lent i)) × (inSlot (slotAt (b .lists .slots) i) ≡ y ∷ []) × (y .pages ≡ 2);
+    }
 
 -- a command is good: NOP
 abbrev pub nop : Request
 nop = record { form = fm.Imm; op = 0x031; «op_mod» = 0; «in_mod» = 0; «in_param» = 0 }
 
 abbrev pub commands : Chapter
-commands = record { call = k.Command nop; undo = noUndo; result = λ o. (value us : ℕ) × (o ≡ u.Opened (v.Command value us)) }
+commands = record { call = k.Command nop; undo = noUndo; result = λ b o. (value us : ℕ) × (o ≡ u.Opened (v.Command value us)) }
 
 -- all is undone, and one record is on the list: its command was good
 abbrev pub oneUndo : Top
 oneUndo = record { count = 1; op = 0x031; «op_mod» = 0; «in_mod» = 0; «in_param» = 0 }
 
 abbrev pub undoes : Chapter
-undoes = record { call = k.UndoTo 0 false; undo = oneUndo; result = λ o. o ≡ u.Opened v.Nothing }
+undoes = record { call = k.UndoTo 0 false; undo = oneUndo; result = λ b o. o ≡ u.Opened v.Nothing }
 
 abbrev pub quiesces : Chapter
-quiesces = record { call = k.Quiesce; undo = noUndo; result = λ o. o ≡ u.Opened v.Nothing }
+quiesces = record { call = k.Quiesce; undo = noUndo; result = λ b o. o ≡ u.Opened v.Nothing }
 
 abbrev pub closes : Closing → Chapter
-closes c = record { call = k.Close; undo = noUndo; result = λ o. o ≡ u.Closed c }
+closes c = record { call = k.Close; undo = noUndo; result = λ b o. o ≡ u.Closed c }
 
 -- THE STATEMENT
 pub record NotEmpty : Type 1 where

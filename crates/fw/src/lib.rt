@@ -1,211 +1,153 @@
-// The session as it takes answers: an answer takes the session and gives it back with the question that is now open, or with a refusal. How a call begins is
-// the crate `calls`.
-use fw_plan::Turn;
-use fw_plan::Wipe;
+// The session as it takes answers, in its bytes: an answer inside a task writes the task's own words; the end of one leads to the plan that follows, and writes the head.
+// How a call begins is the crate `calls`.
+use abi::SHORT;
+use abi::WRONG;
+use fw_begin::Said;
 use pci::Answer;
-use pci::HandleReply;
-use pci::Question;
-use pci::Refusal;
-use session::Fill;
-use session::Planned;
-use session::Prepare;
-use session::Session;
+use session::Core;
+use session::Plan;
 use session::Stage;
 use session::Top;
 use work::End;
 use work::Ending;
-use work::Work;
 ghost use mathlib.Core.Path.{_≡_};
+ghost use Prim.Native.Nat.{_≤_};
+ghost use lib.ListN.{length};
+ghost use Rattle.words.specs.Places.{stateBytes};
+ghost use Rattle.words_laws.specs.Kept.{Rewrites};
+ghost use Rattle.work.specs.declared.Ending.the-variants.{Ended};
+ghost use Rattle.session.specs.Core.{full};
+ghost use Rattle.behind.specs.Behind.{behindIn, notedIn};
+ghost use Rattle.opening.specs.Notes.{noteAt};
 ghost use Rattle.fw_plan.specs.Calls as f;
+ghost use Rattle.bytes_plan.specs.Left.{leftIn, answerLeft};
+ghost use Rattle.abi.specs.Turns as t;
+ghost use Rattle.abi.specs.Kept as k;
+ghost use Rattle.fw_begin.specs.Begins.{saidOf};
+ghost use Rattle.fw.specs.Follow.{notedBy, Leads};
 
-// A mailbox is zeroed when its pages are handed over.
-fn wipe_prepare(p: Prepare) -> Wipe
-    ensures { λ r. ⌜ r ≡ f.wipePrepare p ⌝ }
-{
-    match p {
-        Prepare::Attributes => Wipe::Neither,
-        Prepare::Claim => Wipe::Neither,
-        Prepare::Reset => Wipe::Neither,
-        Prepare::Bar => Wipe::Neither,
-        Prepare::Inbox => Wipe::Inbox,
-        Prepare::Outbox => Wipe::Outbox,
-        Prepare::GiveInbox(_) => Wipe::Neither,
-        Prepare::Look => Wipe::Neither,
-    }
-}
-
-fn wipe_by(stage: Stage) -> Wipe
-    ensures { λ r. ⌜ r ≡ f.wipeBy stage ⌝ }
-{
-    match stage {
-        Stage::Fresh => Wipe::Neither,
-        Stage::Open(_) => Wipe::Neither,
-        Stage::Ended => Wipe::Neither,
-        Stage::Prepare(p) => wipe_prepare(p),
-        Stage::Boot(_) => Wipe::Neither,
-        Stage::Client(_) => Wipe::Neither,
-        Stage::Close(_) => Wipe::Neither,
-    }
-}
-
-fn is_allocate(q: Question) -> bool
-    ensures { λ r. ⌜ r ≡ f.isAllocate q ⌝ }
-{
-    match q {
-        Question::ConfigRead16(_) => false,
-        Question::ConfigRead32(_) => false,
-        Question::ConfigWrite16(_, _) => false,
-        Question::ConfigWrite32(_, _) => false,
-        Question::RegRead(_, _) => false,
-        Question::RegWrite(_, _, _) => false,
-        Question::Attributes(_, _) => false,
-        Question::Resource(_) => false,
-        Question::Stall(_) => false,
-        Question::Allocate(_) => true,
-        Question::Map(_, _) => false,
-        Question::Unmap(_) => false,
-        Question::Free(_, _) => false,
-        Question::Fence => false,
-        Question::Finished => false,
-    }
-}
-
-fn is_granted(r: HandleReply) -> bool
-    ensures { λ b. ⌜ b ≡ f.isGranted r ⌝ }
-{
-    match r {
-        HandleReply::Got(_) => true,
-        HandleReply::Failed => false,
-        HandleReply::Wrong => false,
-    }
-}
-
-fn wipe_of(s: Session, a: Answer) -> Wipe
-    ensures { λ r. ⌜ r ≡ f.wipeOf s a ⌝ }
-{
-    let stage = s.stage;
-    if is_allocate(fw_begin::asks(s)) {
-        if is_granted(pci::as_handle(a)) {
-            return wipe_by(stage);
-        }
-        return Wipe::Neither;
-    }
-    Wipe::Neither
-}
-
-fn wipes(w: Wipe, inbox: &mut [u8], outbox: &mut [u8])
-    ensures { λ r. ⌜ now (inbox .exit) ≡ f.wipedIn w (now (inbox .entry)) ⌝ }
-    ensures { λ r. ⌜ now (outbox .exit) ≡ f.wipedOut w (now (outbox .entry)) ⌝ }
-{
-    match w {
-        Wipe::Neither => {}
-        Wipe::Inbox => fields::zero(inbox),
-        Wipe::Outbox => fields::zero(outbox),
-    }
-}
-
-fn stays(s: Session, undo: usize) -> Planned
-    ensures { λ r. ⌜ r ≡ f.staysPlan s undo ⌝ }
-{
-    Planned {
-        session: s,
-        fill: Fill::Nothing,
-        undo,
-    }
-}
+// The bytes of what a call says: the question in four words, and how many undo records are left.
+const TURN: usize = 40;
 
 // What follows when a task has ended, by what it was for.
-fn follow(s: Session, end: End, outbox: &[u8], top: Top) -> Planned
-    ensures { λ r. ⌜ r ≡ f.planOf s end (now (outbox .entry)) top ⌝ }
+fn follow(s: Core, end: End, outbox: &[u8], top: Top, m: &[u8]) -> Plan
+    ensures { λ r. ⌜ Leads r s end (now (outbox .entry)) top (behindIn (now (m .entry))) ⌝ }
 {
     let stage = s.stage;
     match stage {
-        Stage::Fresh => stays(s, top.count),
-        Stage::Open(_) => stays(s, top.count),
-        Stage::Ended => stays(s, top.count),
-        Stage::Prepare(p) => preparing::prepared(s, p, end, top),
-        Stage::Boot(b) => opening::booted(s, b, end, outbox, top),
+        Stage::Fresh => Plan::new(s, top.count),
+        Stage::Open(_) => Plan::new(s, top.count),
+        Stage::Ended => Plan::new(s, top.count),
+        Stage::Prepare(p) => preparing::prepared(s, p, end, top, m),
+        Stage::Boot(b) => opening::booted(s, b, end, outbox, top, m),
         Stage::Client(k) => client::served(s, k, end, top),
-        Stage::Close(c) => closing::closed(s, c, end, top),
+        Stage::Close(c) => closing::closed(s, c, end, top, m),
     }
 }
 
-// The session with the task that the step left.
-fn with_work(s: Session, work: Work) -> Session
-    ensures { λ r. ⌜ r ≡ f.withWork s work ⌝ }
+// What a reply leaves behind the head is noted there.
+fn note(s: Core, end: End, outbox: &[u8], m: &mut [u8])
+    ensures { λ _. ⌜ now (m .exit) ≡ notedIn (noteAt (s .uar .size) (s .stage) end (now (outbox .entry))) (s .uar .size) (now (outbox .entry)) (now (m .entry)) ⌝ }
+    ensures { λ _. ⌜ Rewrites (now (m .entry)) (now (m .exit)) (notedBy s end (now (outbox .entry)) (behindIn (now (m .entry)))) ⌝ }
 {
-    Session { work, ..s }
-}
-
-// The task goes on: a mailbox whose pages were handed over is zeroed.
-fn go_on(
-    s: Session,
-    work: Work,
-    a: Answer,
-    inbox: &mut [u8],
-    outbox: &mut [u8],
-    undo: usize,
-) -> Turn
-    ensures { λ r. ⌜ r ≡ f.turnOf (f.withWork s work) undo ⌝ }
-    ensures { λ r. ⌜ now (inbox .exit) ≡ f.wipedIn (f.wipeOf s a) (now (inbox .entry)) ⌝ }
-    ensures { λ r. ⌜ now (outbox .exit) ≡ f.wipedOut (f.wipeOf s a) (now (outbox .entry)) ⌝ }
-{
-    wipes(wipe_of(s, a), inbox, outbox);
-    fw_begin::takes_turn(with_work(s, work), undo)
+    let stage = s.stage;
+    let uar = s.uar;
+    let size = uar.size;
+    let note = opening::note_of(stage, end, outbox, size);
+    fw_step::put_note(m, note, size, outbox);
 }
 
 // The task has ended: the plan says what follows, from the outbox as it is lent now.
-fn end(s: Session, end: End, inbox: &mut [u8], outbox: &mut [u8], top: Top) -> Turn
-    ensures { λ r. ⌜ r ≡ f.endedOf s end (now (inbox .entry)) (now (outbox .entry)) top ⌝ }
-    ensures { λ r. ⌜ now (inbox .exit) ≡ f.endedIn s end (now (inbox .entry)) (now (outbox .entry)) top ⌝ }
-    ensures { λ r. ⌜ now (outbox .exit) ≡ f.endedOut s end (now (outbox .entry)) top ⌝ }
+fn end(s: Core, end: End, inbox: &mut [u8], outbox: &mut [u8], top: Top, m: &mut [u8]) -> Said
+    requires { ⌜ stateBytes ≤ length (now m) ⌝ }
+    ensures { λ r. ⌜ r ≡ saidOf (f.endedOf (full s (behindIn (now (m .entry)))) end (now (inbox .entry)) (now (outbox .entry)) top) ⌝ }
+    ensures { λ _. ⌜ now (inbox .exit) ≡ f.endedIn (full s (behindIn (now (m .entry)))) end (now (inbox .entry)) (now (outbox .entry)) top ⌝ }
+    ensures { λ _. ⌜ now (outbox .exit) ≡ f.endedOut (full s (behindIn (now (m .entry)))) end (now (outbox .entry)) top ⌝ }
+    ensures { λ _. ⌜ now (m .exit) ≡ leftIn (full s (behindIn (now (m .entry)))) (f.endedOf (full s (behindIn (now (m .entry)))) end (now (inbox .entry)) (now (outbox .entry)) top .session) (now (outbox .entry)) (Ended end) (now (m .entry)) ⌝ }
+    ensures { λ _. ⌜ k.Writes (now (m .entry)) (now (m .exit)) (f.endedOf (full s (behindIn (now (m .entry)))) end (now (inbox .entry)) (now (outbox .entry)) top .session) ⌝ }
 {
-    let p = follow(s, end, outbox, top);
-    fw_begin::begin(p, inbox, outbox)
+    note(s, end, outbox, m);
+    let p = follow(s, end, outbox, top, m);
+    fw_begin::begin(p, inbox, outbox, m)
 }
 
 // The answer to the open question.
 fn step(
-    s: Session,
+    s: Core,
     a: Answer,
     resource: &[u8],
     inbox: &mut [u8],
     outbox: &mut [u8],
     top: Top,
-) -> Turn
-    ensures { λ r. ⌜ r ≡ f.stepOf s a (now (resource .entry)) (now (inbox .entry)) (now (outbox .entry)) top ⌝ }
-    ensures { λ r. ⌜ now (inbox .exit) ≡ f.stepIn s a (now (resource .entry)) (now (inbox .entry)) (now (outbox .entry)) top ⌝ }
-    ensures { λ r. ⌜ now (outbox .exit) ≡ f.stepOut s a (now (resource .entry)) (now (outbox .entry)) top ⌝ }
+    m: &mut [u8],
+) -> Said
+    requires { ⌜ stateBytes ≤ length (now m) ⌝ }
+    ensures { λ r. ⌜ r ≡ saidOf (f.stepOf (full s (behindIn (now (m .entry)))) a (now (resource .entry)) (now (inbox .entry)) (now (outbox .entry)) top) ⌝ }
+    ensures { λ _. ⌜ now (inbox .exit) ≡ f.stepIn (full s (behindIn (now (m .entry)))) a (now (resource .entry)) (now (inbox .entry)) (now (outbox .entry)) top ⌝ }
+    ensures { λ _. ⌜ now (outbox .exit) ≡ f.stepOut (full s (behindIn (now (m .entry)))) a (now (resource .entry)) (now (outbox .entry)) top ⌝ }
+    ensures { λ _. ⌜ now (m .exit) ≡ answerLeft (full s (behindIn (now (m .entry)))) a (now (resource .entry)) (now (outbox .entry)) (f.stepOf (full s (behindIn (now (m .entry)))) a (now (resource .entry)) (now (inbox .entry)) (now (outbox .entry)) top .session) (now (m .entry)) ⌝ }
+    ensures { λ _. ⌜ k.Steps (now (m .entry)) (now (m .exit)) (full s (behindIn (now (m .entry)))) (f.stepOf (full s (behindIn (now (m .entry)))) a (now (resource .entry)) (now (inbox .entry)) (now (outbox .entry)) top .session) ⌝ }
 {
-    let task = s.work;
-    let st = task.step(a, resource);
-    let work = st.work;
-    let ending = st.ending;
+    let stage = s.stage;
+    let took = fw_step::take(s, a, resource, m);
+    let task = took.task;
+    let ending = took.ending;
+    let wipe = took.wipe;
     match ending {
-        Ending::Going => go_on(s, work, a, inbox, outbox, top.count),
-        Ending::Ended(e) => end(with_work(s, work), e, inbox, outbox, top),
+        Ending::Going => fw_step::go_on(s, task, wipe, inbox, outbox, top.count, m),
+        Ending::Ended(y) => end(s.start(stage, task), y, inbox, outbox, top, m),
     }
 }
 
-// Hands in the answer to the open question, with a resource list's bytes beside it. 20 for an answer of the wrong kind, or where no question is open; then 21 for a
-// mailbox that has not 4,096 bytes, or more than 256 undo records.
-pub fn answer(
-    s: Session,
+// An answer to a session whose head was read: 20 where it is not the time for it, then 21 where there is no room for what it says, or a mailbox is none.
+fn answer_of(
+    s: Core,
     a: Answer,
     resource: &[u8],
     inbox: &mut [u8],
     outbox: &mut [u8],
     top: Top,
-) -> Turn
-    ensures { λ r. ⌜ r ≡ f.answerOf s a (now (resource .entry)) (now (inbox .entry)) (now (outbox .entry)) top ⌝ }
-    ensures { λ r. ⌜ now (inbox .exit) ≡ f.answerIn s a (now (resource .entry)) (now (inbox .entry)) (now (outbox .entry)) top ⌝ }
-    ensures { λ r. ⌜ now (outbox .exit) ≡ f.answerOut s a (now (resource .entry)) (now (inbox .entry)) (now (outbox .entry)) top ⌝ }
+    state: &mut [u8],
+    out: &mut [u8],
+) -> u32
+    requires { ⌜ stateBytes ≤ length (now state) ⌝ }
+    ensures { λ r. ⌜ t.after r (now (state .exit)) (now (inbox .exit)) (now (outbox .exit)) (now (out .exit)) ≡ t.answerKnown (full s (behindIn (now (state .entry)))) a (now (resource .entry)) top (now (state .entry)) (now (inbox .entry)) (now (outbox .entry)) (now (out .entry)) ⌝ }
+    ensures { λ _. ⌜ k.Keeps (now (state .entry)) (now (state .exit)) (full s (behindIn (now (state .entry)))) (k.answerNext a (now (resource .entry)) top (now (inbox .entry)) (now (outbox .entry)) (now (out .entry)) (full s (behindIn (now (state .entry))))) ⌝ }
 {
-    if fw_begin::answerable(s, a) {
-        if fw_begin::is_lent(inbox, outbox, top) {
-            return step(s, a, resource, inbox, outbox, top);
-        }
-        return fw_begin::refused(s, Refusal::Short, top.count);
+    if !fw_begin::answerable(s, a, state) {
+        return WRONG;
     }
-    fw_begin::refused(s, Refusal::Wrong, top.count)
+    if out.len() < TURN {
+        return SHORT;
+    }
+    if !fw_begin::is_lent(inbox, outbox, top) {
+        return SHORT;
+    }
+    let said = step(s, a, resource, inbox, outbox, top, state);
+    let question = said.question;
+    words_calls::put_turn(out, question, said.undo);
+    0
+}
+
+// Hands the session that the bytes hold the answer to its open question, with a resource list's bytes beside it. The head is looked at, and what the step reads.
+pub fn answer(
+    state: &mut [u8],
+    a: Answer,
+    resource: &[u8],
+    inbox: &mut [u8],
+    outbox: &mut [u8],
+    top: Top,
+    out: &mut [u8],
+) -> u32
+    ensures { λ r. ⌜ t.after r (now (state .exit)) (now (inbox .exit)) (now (outbox .exit)) (now (out .exit)) ≡ t.answered a (now (resource .entry)) top (now (state .entry)) (now (inbox .entry)) (now (outbox .entry)) (now (out .entry)) ⌝ }
+    ensures { λ _. ⌜ k.Holds (now (state .entry)) (now (state .exit)) (k.answerNext a (now (resource .entry)) top (now (inbox .entry)) (now (outbox .entry)) (now (out .entry))) ⌝ }
+{
+    if state.len() < words::STATE_BYTES {
+        return SHORT;
+    }
+    let s = words_session::head_at(state);
+    if !words_session::head_stands(state, s) {
+        return WRONG;
+    }
+    answer_of(s, a, resource, inbox, outbox, top, state, out)
 }

@@ -1,37 +1,33 @@
-// What a call and an answer share: the question that is open, what has become of a session, the tests behind 20 and 21, and how a plan is begun: the mailboxes are written,
-// and the next question is open.
+// What a call and an answer share: the tests behind 20 and 21, and how a plan is begun: the mailboxes are written, the head is, and the next question is open.
 use dma::PageList;
 use fw_plan::Lent;
-use fw_plan::Outcome;
-use fw_plan::Turn;
 use init::InitHca;
 use pci::Answer;
 use pci::Question;
-use pci::Refusal;
-use session::Closing;
-use session::Failure;
+use session::Core;
 use session::Fill;
-use session::Info;
-use session::Planned;
-use session::Session;
-use session::Stage;
+use session::Plan;
 use session::Top;
 ghost use mathlib.Core.Path.{_≡_};
+ghost use Rattle.session.specs.Core.{Behind, full, planIn};
+ghost use Rattle.behind.specs.Behind.{behindIn};
+ghost use Rattle.opening_values.specs.Heads.{WithSlots};
 ghost use Rattle.fw_plan.specs.Calls as f;
+ghost use Rattle.bytes_plan.specs.Left.{headedIn};
+ghost use Rattle.abi.specs.Kept.{Writes};
+ghost use Rattle.fw_begin.specs.Begins as b;
 
-// The question that is open.
-pub fn asks(s: Session) -> Question
-    ensures { λ r. ⌜ r ≡ f.asksOf s ⌝ }
-{
-    let work = s.work;
-    work.asks()
+// What a call says: the question that is open now, and how many undo records are left on the list.
+pub struct Said {
+    pub question: Question,
+    pub undo: usize,
 }
 
 // What INIT_HCA tells this card.
-fn init_fields(n: Info) -> InitHca
-    ensures { λ r. ⌜ r ≡ f.initIn n ⌝ }
+fn init_fields(m: &[u8]) -> InitHca
+    ensures { λ r. ⌜ ((c : Core) → r ≡ f.initIn (full c (behindIn (now (m .entry))) .info)) ⌝ }
 {
-    let cap = n.cap;
+    let cap = behind::cap_at(m);
     let laid = layout::profile(cap);
     let layout = laid.layout;
     let rows = layout.rows;
@@ -39,101 +35,86 @@ fn init_fields(n: Info) -> InitHca
 }
 
 // The inbox is filled for a page list, whose command then begins.
-fn fill_list(s: Session, c: dma::Cutter, inbox: &mut [u8]) -> Session
-    ensures { λ r. ⌜ r ≡ f.filledList c s (now (inbox .entry)) ⌝ }
+fn fill_list(s: Core, c: dma::Cutter, inbox: &mut [u8], m: &[u8]) -> Core
+    ensures { λ r. ⌜ WithSlots (behindIn (now (m .entry))) (λ b. full r b ≡ f.filledList c (full s b) (now (inbox .entry))) ⌝ }
     ensures { λ r. ⌜ now (inbox .exit) ≡ f.listIn c (now (inbox .entry)) ⌝ }
 {
     match dma::fill(inbox, 63, c, PageList::CAPACITY) {
-        PageList::Filled(y) => opening_values::lists(s, y),
+        PageList::Filled(y) => opening_values::lists(s, y, m),
         PageList::Short => s,
     }
 }
 
-fn fill_init(s: Session, inbox: &mut [u8]) -> Session
-    ensures { λ r. ⌜ r ≡ s ⌝ }
-    ensures { λ r. ⌜ now (inbox .exit) ≡ f.initBox s (now (inbox .entry)) ⌝ }
+fn fill_init(inbox: &mut [u8], m: &[u8])
+    ensures { λ _. ⌜ ((c : Core) → b.WithCaps (behindIn (now (m .entry))) (λ b. now (inbox .exit) ≡ f.initBox (full c b) (now (inbox .entry)))) ⌝ }
 {
-    let info = s.info;
-    init::fill(inbox, init_fields(info));
-    s
-}
-
-fn fill_stat(s: Session, inbox: &mut [u8]) -> Session
-    ensures { λ r. ⌜ r ≡ s ⌝ }
-    ensures { λ r. ⌜ now (inbox .exit) ≡ f.statBox (now (inbox .entry)) ⌝ }
-{
-    init::mod_stat_cfg(inbox);
-    s
-}
-
-fn fill_out(s: Session, outbox: &mut [u8]) -> Session
-    ensures { λ r. ⌜ r ≡ s ⌝ }
-    ensures { λ r. ⌜ now (outbox .exit) ≡ f.outBox (now (outbox .entry)) ⌝ }
-{
-    fields::zero(outbox);
-    s
+    init::fill(inbox, init_fields(m));
 }
 
 // The mailboxes are written as the plan says.
-fn fill(fill: Fill, s: Session, inbox: &mut [u8], outbox: &mut [u8]) -> Session
-    ensures { λ r. ⌜ r ≡ f.filled fill s (now (inbox .entry)) ⌝ }
-    ensures { λ r. ⌜ now (inbox .exit) ≡ f.filledIn fill s (now (inbox .entry)) ⌝ }
-    ensures { λ r. ⌜ now (outbox .exit) ≡ f.filledOut fill (now (outbox .entry)) ⌝ }
+fn fill(fill: Fill, s: Core, inbox: &mut [u8], outbox: &mut [u8], m: &[u8]) -> Core
+    ensures { λ r. ⌜ WithSlots (behindIn (now (m .entry))) (λ b. full r b ≡ f.filled fill (full s b) (now (inbox .entry))) ⌝ }
+    ensures { λ _. ⌜ b.WithCaps (behindIn (now (m .entry))) (λ b. now (inbox .exit) ≡ f.filledIn fill (full s b) (now (inbox .entry))) ⌝ }
+    ensures { λ _. ⌜ now (outbox .exit) ≡ f.filledOut fill (now (outbox .entry)) ⌝ }
 {
     match fill {
         Fill::Nothing => s,
-        Fill::Outbox => fill_out(s, outbox),
-        Fill::List(c) => fill_list(s, c, inbox),
-        Fill::ModStat => fill_stat(s, inbox),
-        Fill::InitHca => fill_init(s, inbox),
+        Fill::Outbox => {
+            fields::zero(outbox);
+            s
+        }
+        Fill::List(c) => fill_list(s, c, inbox, m),
+        Fill::ModStat => {
+            init::mod_stat_cfg(inbox);
+            s
+        }
+        Fill::InitHca => {
+            fill_init(inbox, m);
+            s
+        }
     }
 }
 
-// A turn that was not refused.
-pub fn takes_turn(session: Session, undo: usize) -> Turn
-    ensures { λ r. ⌜ r ≡ f.turnOf session undo ⌝ }
+// A head's task begins: its question is open, and the head is written.
+fn open_task(c: Core, m: &mut [u8]) -> Question
+    ensures { λ r. ⌜ r ≡ f.asksOf (b.opens c (behindIn (now (m .entry)))) ⌝ }
+    ensures { λ _. ⌜ now (m .exit) ≡ headedIn (b.opens c (behindIn (now (m .entry)))) (now (m .entry)) ⌝ }
+    ensures { λ _. ⌜ Writes (now (m .entry)) (now (m .exit)) (b.opens c (behindIn (now (m .entry)))) ⌝ }
 {
-    Turn {
-        session,
-        refusal: Failure::Nothing,
-        question: asks(session),
-        undo,
-    }
+    let stage = c.stage;
+    let task = c.task;
+    behind::begin(m, stage, task);
+    let question = intask::asks(task, m);
+    words_session::put_head(m, c);
+    question
 }
 
-// A turn that was refused leaves everything as it is.
-pub fn refused(session: Session, why: Refusal, undo: usize) -> Turn
-    ensures { λ r. ⌜ r ≡ f.refusedOf session why undo ⌝ }
-{
-    Turn {
-        session,
-        refusal: Failure::By(why),
-        question: asks(session),
-        undo,
-    }
-}
-
-// A plan is begun: the mailboxes are written, and the next question is open.
-pub fn begin(p: Planned, inbox: &mut [u8], outbox: &mut [u8]) -> Turn
-    ensures { λ r. ⌜ r ≡ f.begunOf p (now (inbox .entry)) ⌝ }
-    ensures { λ r. ⌜ now (inbox .exit) ≡ f.begunIn p (now (inbox .entry)) ⌝ }
-    ensures { λ r. ⌜ now (outbox .exit) ≡ f.begunOut p (now (outbox .entry)) ⌝ }
+// A plan is begun: the mailboxes are written, the head is, and the next question is open.
+pub fn begin(p: Plan, inbox: &mut [u8], outbox: &mut [u8], m: &mut [u8]) -> Said
+    ensures { λ r. ⌜ r ≡ b.saidOf (f.begunOf (planIn p (behindIn (now (m .entry)))) (now (inbox .entry))) ⌝ }
+    ensures { λ _. ⌜ now (inbox .exit) ≡ f.begunIn (planIn p (behindIn (now (m .entry)))) (now (inbox .entry)) ⌝ }
+    ensures { λ _. ⌜ now (outbox .exit) ≡ f.begunOut (planIn p (behindIn (now (m .entry)))) (now (outbox .entry)) ⌝ }
+    ensures { λ _. ⌜ now (m .exit) ≡ headedIn (f.begunOf (planIn p (behindIn (now (m .entry)))) (now (inbox .entry)) .session) (now (m .entry)) ⌝ }
+    ensures { λ _. ⌜ Writes (now (m .entry)) (now (m .exit)) (f.begunOf (planIn p (behindIn (now (m .entry)))) (now (inbox .entry)) .session) ⌝ }
 {
     let how = p.fill;
-    let s = p.session;
-    takes_turn(fill(how, s, inbox, outbox), p.undo)
+    let s = p.core;
+    let c = fill(how, s, inbox, outbox, m);
+    let question = open_task(c, m);
+    Said {
+        question,
+        undo: p.undo,
+    }
 }
 
-// The struct is a session: its lists are within their arrays.
-pub fn is_session(s: Session) -> bool
-    ensures { λ r. ⌜ r ≡ f.isSession s ⌝ }
+// The head is that of a session: its counts are within the slots.
+pub fn is_session(s: Core) -> bool
+    ensures { λ r. ⌜ ((b : Behind) → r ≡ f.isSession (full s b)) ⌝ }
 {
-    let books = s.books;
-    let lists = books.lists;
-    if Lent::RANGES < lists.ranges {
+    if Lent::RANGES < s.ranges {
         return false;
     }
-    if Lent::BUFFERS < lists.lends {
+    if Lent::BUFFERS < s.lends {
         return false;
     }
     true
@@ -156,38 +137,12 @@ pub fn is_lent(inbox: &[u8], outbox: &[u8], top: Top) -> bool
 }
 
 // The answer is one to the open question; else it is refused with 20.
-pub fn answerable(s: Session, a: Answer) -> bool
-    ensures { λ r. ⌜ r ≡ f.answerable s a ⌝ }
+pub fn answerable(s: Core, a: Answer, m: &[u8]) -> bool
+    ensures { λ r. ⌜ r ≡ f.answerable (full s (behindIn (now (m .entry)))) a ⌝ }
 {
+    let task = s.task;
     if is_session(s) {
-        return pci::suits(asks(s), a);
+        return pci::suits(intask::asks(task, m), a);
     }
     false
-}
-
-fn ended(failure: Failure, closing: Closing) -> Outcome
-    ensures { λ r. ⌜ r ≡ f.endedAs failure closing ⌝ }
-{
-    match failure {
-        Failure::Nothing => Outcome::Closed(closing),
-        Failure::By(why) => Outcome::Failed(why, closing),
-    }
-}
-
-// What has become of a session.
-pub fn result(s: Session) -> Outcome
-    ensures { λ r. ⌜ r ≡ f.outcomeOf s ⌝ }
-{
-    let stage = s.stage;
-    let failure = s.failure;
-    let closing = s.closing;
-    match stage {
-        Stage::Fresh => Outcome::Fresh,
-        Stage::Open(gave) => Outcome::Opened(gave),
-        Stage::Ended => ended(failure, closing),
-        Stage::Prepare(_) => Outcome::Running,
-        Stage::Boot(_) => Outcome::Running,
-        Stage::Client(_) => Outcome::Running,
-        Stage::Close(_) => Outcome::Running,
-    }
 }

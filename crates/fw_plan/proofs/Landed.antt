@@ -11,7 +11,7 @@ use Rattle.work.specs.Work.{workScript}
 use Rattle.work.specs.declared.Work.{Work}
 use Rattle.work.specs.declared.End.{End}
 use Rattle.session.specs.Session.{session, planned}
-use Rattle.session.specs.Course.{Here, here, neither, touched, run}
+use Rattle.session.specs.Course.{Here, here, Place, neither, inbox, outbox, slot, zeroed, touched, run}
 use Rattle.session.proofs.Courses.{run-same}
 use Rattle.session.specs.declared.Top.{Top}
 use Rattle.session.specs.declared.Books.{Books}
@@ -33,10 +33,12 @@ use Rattle.session.specs.declared.Fill.the-variants as w
 use Rattle.session.specs.declared.Session.{Session}
 use Rattle.session.specs.declared.Planned.{Planned}
 use Rattle.closing_plan.specs.Plan.{closeCourse, afterClose}
+use Rattle.closing_plan.specs.Plan as kl
 use Rattle.closing_plan.proofs.Lands as z
 use Rattle.client_plan.specs.Plan.{clientCourse, afterClient}
+use Rattle.client_plan.specs.Plan as kp
 use Rattle.client_plan.proofs.Lands as cl
-use Rattle.opening_plan.specs.Plan.{bootCourse, prepareCourse, afterBoot, afterPrepare, boxOf, lists}
+use Rattle.opening_plan.specs.Plan.{bootCourse, prepareCourse, afterBoot, afterPrepare, boxOf, placeBoot, lists}
 use Rattle.opening_plan.proofs.Lands.{wrote, leads, boot-lands, prepare-lands}
 use Rattle.fw_plan.specs.Calls.{begunOf, begunIn, begunOut, planOf, withWork, filledList}
 use Rattle.fw_plan.specs.Follows.{courseOf, courseAt}
@@ -94,18 +96,13 @@ close-same kc.UnmapAux s v y h = refl
 close-same kc.UnmapFa s v y h = refl
 close-same kc.Quiesce s v y h = refl
 close-same kc.Reset s v y h = refl
-close-same (kc.FreeLent i) s v y h = refl
-close-same (kc.FreeIcm i) s v y h = refl
-close-same kc.FreeAux s v y h = refl
-close-same kc.FreeFa s v y h = refl
-close-same kc.FreeInbox s v y h = refl
-close-same kc.FreeOutbox s v y h = refl
+close-same (kc.Free i) s v y h = refl
 close-same kc.Release s v y h = refl
 close-same kc.Restore s v y h = refl
 
 client-same : (st : Client) (s : Session) (v : Work) (y : End) (h : Here) → afterClient st (withWork s v) y h ≡ afterClient st s y h
 client-same (ku.Command o) s v y h = refl
-client-same ku.Lend s v y h = refl
+client-same (ku.Lend i) s v y h = refl
 client-same (ku.UndoTo n m) s v y h = refl
 
 prepare-same : (st : Prepare) (s : Session) (v : Work) (y : End) (h : Here) → afterPrepare st (withWork s v) y h ≡ afterPrepare st s y h
@@ -115,55 +112,66 @@ prepare-same p.Reset s v y h = refl
 prepare-same p.Bar s v y h = refl
 prepare-same p.Inbox s v y h = refl
 prepare-same p.Outbox s v y h = refl
-prepare-same (p.GiveInbox e) s v y h = refl
 prepare-same p.Look s v y h = refl
 
-module _ (b : Books) (n : Info) (f : Failure) (c : Closing) where
-  abbrev pub at : Stage → Work → Session
-  at st v = session st v b n f c
+module _ (n : Info) (f : Failure) (c : Closing) where
+  abbrev pub at : Stage → Work → Books → Session
+  at st v b = session st v b n f c
 
-  pub boot-course : (st : Boot) (v u : Work) (h : Here) → courseOf (at (g.Boot st) v) h ≡ run neither (workScript (h .inbox) v) (afterBoot st (at (g.Boot st) u)) h
+  pub boot-course : (st : Boot) (v u : Work) (b : Books) (h : Here) → courseOf (at (g.Boot st) v b) h ≡ run (placeBoot st n) (workScript (h .inbox) v) (λ y d j. afterBoot st (at (g.Boot st) u d) y j) b h
   unfolding bootCourse
-  boot-course st v u h = run-same neither (workScript (h .inbox) v) _ _ h (λ y j. boot-same st (at (g.Boot st) u) v y j)
+  boot-course st v u b h = run-same (placeBoot st n) (workScript (h .inbox) v) _ _ b h (λ y d j. boot-same st (at (g.Boot st) u d) v y j)
 
-  pub close-course : (st : Close) (v u : Work) (h : Here) → courseOf (at (g.Close st) v) h ≡ run neither (workScript (h .inbox) v) (afterClose st (at (g.Close st) u)) h
+  pub close-course : (st : Close) (v u : Work) (b : Books) (h : Here) → courseOf (at (g.Close st) v b) h ≡ run (kl.placeIn st) (workScript (h .inbox) v) (λ y d j. afterClose st (at (g.Close st) u d) y j) b h
   unfolding closeCourse
-  close-course st v u h = run-same neither (workScript (h .inbox) v) _ _ h (λ y j. close-same st (at (g.Close st) u) v y j)
+  close-course st v u b h = run-same (kl.placeIn st) (workScript (h .inbox) v) _ _ b h (λ y d j. close-same st (at (g.Close st) u d) v y j)
 
-  pub client-course : (st : Client) (v u : Work) (h : Here) → courseOf (at (g.Client st) v) h ≡ run neither (workScript (h .inbox) v) (afterClient st (at (g.Client st) u)) h
+  pub client-course : (st : Client) (v u : Work) (b : Books) (h : Here) → courseOf (at (g.Client st) v b) h ≡ run (kp.placeIn st) (workScript (h .inbox) v) (λ y d j. afterClient st (at (g.Client st) u d) y j) b h
   unfolding clientCourse
-  client-course st v u h = run-same neither (workScript (h .inbox) v) _ _ h (λ y j. client-same st (at (g.Client st) u) v y j)
+  client-course st v u b h = run-same (kp.placeIn st) (workScript (h .inbox) v) _ _ b h (λ y d j. client-same st (at (g.Client st) u d) v y j)
 
-  pub prepare-course : (st : Prepare) (v u : Work) (h : Here) → courseOf (at (g.Prepare st) v) h ≡ run (boxOf st) (workScript (h .inbox) v) (afterPrepare st (at (g.Prepare st) u)) h
+  pub prepare-course : (st : Prepare) (v u : Work) (b : Books) (h : Here) → courseOf (at (g.Prepare st) v b) h ≡ run (boxOf st) (workScript (h .inbox) v) (λ y d j. afterPrepare st (at (g.Prepare st) u d) y j) b h
   unfolding prepareCourse
-  prepare-course st v u h = run-same (boxOf st) (workScript (h .inbox) v) _ _ h (λ y j. prepare-same st (at (g.Prepare st) u) v y j)
+  prepare-course st v u b h = run-same (boxOf st) (workScript (h .inbox) v) _ _ b h (λ y d j. prepare-same st (at (g.Prepare st) u d) v y j)
 
-  pub boot-plan : (st : Boot) (v u : Work) (y : End) (h : Here) → leads (planOf (at (g.Boot st) v) y (h .outbox) (h .undo)) h ≡ afterBoot st (at (g.Boot st) u) y h
-  boot-plan st v u y h = boot-lands st (at (g.Boot st) v) y h ∙ boot-same st (at (g.Boot st) u) v y h
+  pub boot-plan : (st : Boot) (v u : Work) (b : Books) (y : End) (h : Here) → leads (planOf (at (g.Boot st) v b) y (h .outbox) (h .undo)) h ≡ afterBoot st (at (g.Boot st) u b) y h
+  boot-plan st v u b y h = boot-lands st (at (g.Boot st) v b) y h ∙ boot-same st (at (g.Boot st) u b) v y h
 
-  pub close-plan : (st : Close) (v u : Work) (y : End) (h : Here) → leads (planOf (at (g.Close st) v) y (h .outbox) (h .undo)) h ≡ afterClose st (at (g.Close st) u) y h
-  close-plan st v u y h = z.close-lands prepareCourse bootCourse clientCourse wrote st (at (g.Close st) v) y h ∙ close-same st (at (g.Close st) u) v y h
+  pub close-plan : (st : Close) (v u : Work) (b : Books) (y : End) (h : Here) → leads (planOf (at (g.Close st) v b) y (h .outbox) (h .undo)) h ≡ afterClose st (at (g.Close st) u b) y h
+  close-plan st v u b y h = z.close-lands prepareCourse bootCourse clientCourse wrote st (at (g.Close st) v b) y h ∙ close-same st (at (g.Close st) u b) v y h
 
-  pub client-plan : (st : Client) (v u : Work) (y : End) (h : Here) → leads (planOf (at (g.Client st) v) y (h .outbox) (h .undo)) h ≡ afterClient st (at (g.Client st) u) y h
-  client-plan st v u y h = cl.client-lands prepareCourse bootCourse wrote st (at (g.Client st) v) y h ∙ client-same st (at (g.Client st) u) v y h
+  pub client-plan : (st : Client) (v u : Work) (b : Books) (y : End) (h : Here) → leads (planOf (at (g.Client st) v b) y (h .outbox) (h .undo)) h ≡ afterClient st (at (g.Client st) u b) y h
+  client-plan st v u b y h = cl.client-lands prepareCourse bootCourse wrote st (at (g.Client st) v b) y h ∙ client-same st (at (g.Client st) u b) v y h
 
-  pub prepare-plan : (st : Prepare) (v u : Work) (y : End) (h : Here) → leads (planOf (at (g.Prepare st) v) y (h .outbox) (h .undo)) h ≡ afterPrepare st (at (g.Prepare st) u) y h
-  prepare-plan st v u y h = prepare-lands st (at (g.Prepare st) v) y h ∙ prepare-same st (at (g.Prepare st) u) v y h
+  pub prepare-plan : (st : Prepare) (v u : Work) (b : Books) (y : End) (h : Here) → leads (planOf (at (g.Prepare st) v b) y (h .outbox) (h .undo)) h ≡ afterPrepare st (at (g.Prepare st) u b) y h
+  prepare-plan st v u b y h = prepare-lands st (at (g.Prepare st) v b) y h ∙ prepare-same st (at (g.Prepare st) u b) v y h
 
--- no mailbox is zeroed where a buffer is for neither
-pub touched-neither : (q : Ask) (r : Reply q) (h : Here) → touched neither q r h ≡ h
-touched-neither (configRead16 o) r h = refl
-touched-neither (configRead32 o) r h = refl
-touched-neither (configWrite16 o v) r h = refl
-touched-neither (configWrite32 o v) r h = refl
-touched-neither (read b o) r h = refl
-touched-neither (write b o v) r h = refl
-touched-neither (attributes o v) r h = refl
-touched-neither (resource b) r h = refl
-touched-neither (stall u) r h = refl
-touched-neither (allocate n) (good v) h = refl
-touched-neither (allocate n) failed h = refl
-touched-neither (mapped b n) r h = refl
-touched-neither (unmap b) r h = refl
-touched-neither (free b n) r h = refl
-touched-neither (fence i) r h = refl
+-- no mailbox is zeroed where a buffer is for none
+abbrev pub NoBox : Place → Type 0
+NoBox neither = Unit {0}
+NoBox inbox = ⊥
+NoBox outbox = ⊥
+NoBox (slot i v) = Unit {0}
+
+zeroed-none : (b : Place) → NoBox b → (h : Here) → zeroed b h ≡ h
+zeroed-none neither e h = refl
+zeroed-none inbox e h = absurd e
+zeroed-none outbox e h = absurd e
+zeroed-none (slot i v) e h = refl
+
+pub touched-none : (b : Place) → NoBox b → (q : Ask) (r : Reply q) (h : Here) → touched b q r h ≡ h
+touched-none b e (configRead16 o) r h = refl
+touched-none b e (configRead32 o) r h = refl
+touched-none b e (configWrite16 o v) r h = refl
+touched-none b e (configWrite32 o v) r h = refl
+touched-none b e (read k o) r h = refl
+touched-none b e (write k o v) r h = refl
+touched-none b e (attributes o v) r h = refl
+touched-none b e (resource k) r h = refl
+touched-none b e (stall u) r h = refl
+touched-none b e (allocate n) (good v) h = zeroed-none b e h
+touched-none b e (allocate n) failed h = refl
+touched-none b e (mapped k n) r h = refl
+touched-none b e (unmap k) r h = refl
+touched-none b e (free k n) r h = refl
+touched-none b e (fence i) r h = refl

@@ -17,7 +17,7 @@ use Rattle.session.specs.declared.Top.{Top}
 use Rattle.session.specs.declared.Failure.{Failure}
 use Rattle.session.specs.declared.Failure.the-variants as f
 use Rattle.session.specs.declared.Session.{Session}
-use Rattle.fw_plan.specs.Calls.{asksOf, isSession, isLent, answerable, inTime, stepTurn, stepOf, stepIn, stepOut, refusedOf, answerOf, answerIn, answerOut}
+use Rattle.fw_plan.specs.Calls.{bookedOf, asksOf, isSession, isLent, answerable, inTime, stepTurn, stepOf, stepIn, stepOut, refusedOf, answerOf, answerIn, answerOut}
 use Rattle.fw_plan.specs.declared.Turn.{Turn}
 
 and-false : (b : Bool) → b && false ≡ false
@@ -78,7 +78,7 @@ stepped s a y i o top (e.Ended z) = refl
 
 step-good : (s : Session) (a : Answer) (r i o : List ℕ) (top : Top) → stepOf s a r i o top .refusal ≡ f.Nothing
 unfolding stepOf
-step-good s a r i o top = stepped s a (workStepOf (s .work) a r .work) i o top (workStepOf (s .work) a r .ending)
+step-good s a r i o top = stepped (bookedOf s a) a (workStepOf (s .work) a r .work) i o top (workStepOf (s .work) a r .ending)
 
 -- AN ANSWER THAT IS REFUSED leaves both mailboxes
 pub answer-left : (s : Session) (a : Answer) (r i o : List ℕ) (top : Top) (w : Refusal) → answerOf s a r i o top .refusal ≡ f.By w → (answerIn s a r i o top ≡ i) × (answerOut s a r i o top ≡ o)

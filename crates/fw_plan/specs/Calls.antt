@@ -9,13 +9,15 @@ use Rattle.dma.specs.PageList.{listedOf, filledAt}
 use Rattle.dma.specs.declared.Cutter.{Cutter}
 use Rattle.init.specs.declared.InitHca.{InitHca}
 use Rattle.init.specs.Init.{filledBy, fieldsOf, initOf, modStatCfg}
-use Rattle.pci.specs.Views.{grantedOf}
+use Rattle.pci.specs.Views.{grantedOf, mappedOf}
 use Rattle.pci.specs.Suits.{suitsOf}
 use Rattle.pci.specs.declared.Question.{Question}
 use Rattle.pci.specs.declared.Question.the-variants as q
 use Rattle.pci.specs.declared.Answer.{Answer}
 use Rattle.pci.specs.declared.HandleReply.{HandleReply}
 use Rattle.pci.specs.declared.HandleReply.the-variants as h
+use Rattle.pci.specs.declared.MapReply.{MapReply}
+use Rattle.pci.specs.declared.MapReply.the-variants as d
 use Rattle.pci.specs.declared.Refusal.{Refusal}
 use Rattle.pci.specs.declared.Refusal.the-variants as x
 use Rattle.work.specs.Work.{workAsks, workStepOf}
@@ -23,8 +25,9 @@ use Rattle.work.specs.declared.End.{End}
 use Rattle.work.specs.declared.Ending.{Ending}
 use Rattle.work.specs.declared.Ending.the-variants as e
 use Rattle.work.specs.declared.Work.{Work}
-use Rattle.session.specs.Session.{session, planned}
-use Rattle.session.specs.Course.{blank}
+use Rattle.session.specs.Session.{session, bookkeeps, planned, slotAt, bare, mappedAt, unmappedFrom, puts, takenOff, INBOX, OUTBOX}
+use Rattle.session.specs.Course.{blank, Place, neither, inbox, outbox, slot}
+use Rattle.session.specs.declared.Books.{Books}
 use Rattle.session.specs.declared.Top.{Top}
 use Rattle.session.specs.declared.Info.{Info}
 use Rattle.session.specs.declared.Stage.{Stage}
@@ -38,9 +41,11 @@ use Rattle.session.specs.declared.Fill.the-variants as w
 use Rattle.session.specs.declared.Session.{Session}
 use Rattle.session.specs.declared.Planned.{Planned}
 use Rattle.closing_plan.specs.Plan.{closePlan}
+use Rattle.closing_plan.specs.Plan as kl
 use Rattle.client_plan.specs.Plan.{clientPlan}
+use Rattle.client_plan.specs.Plan as kc
 use Rattle.opening_plan.specs.Values.{layoutIn}
-use Rattle.opening_plan.specs.Plan.{bootPlan, preparePlan, lists}
+use Rattle.opening_plan.specs.Plan.{bootPlan, preparePlan, lists, boxOf, placeBoot}
 use Rattle.session.specs.declared.Closing.{Closing}
 use Rattle.fw_plan.specs.declared.Outcome.{Outcome}
 use Rattle.fw_plan.specs.declared.Outcome.the-variants as u
@@ -117,7 +122,6 @@ wipePrepare p.Reset = v.Neither
 wipePrepare p.Bar = v.Neither
 wipePrepare p.Inbox = v.Inbox
 wipePrepare p.Outbox = v.Outbox
-wipePrepare (p.GiveInbox z) = v.Neither
 wipePrepare p.Look = v.Neither
 
 abbrev pub wipeBy : Stage → Wipe
@@ -164,6 +168,56 @@ wipedOut v.Neither o = o
 wipedOut v.Inbox o = o
 wipedOut v.Outbox o = blank o
 
+-- THE SLOT that the task under way is for, by the stage alone: no step puts down or takes off anything in another
+abbrev pub placeAt : Stage → Info → Place
+placeAt g.Fresh n = neither
+placeAt (g.Open z) n = neither
+placeAt g.Ended n = neither
+placeAt (g.Prepare z) n = boxOf z
+placeAt (g.Boot z) n = placeBoot z n
+placeAt (g.Client z) n = kc.placeIn z
+placeAt (g.Close z) n = kl.placeIn z
+
+abbrev pub wants : Session → Place
+wants s = placeAt (s .stage) (s .info)
+
+-- WHAT AN ANSWER DOES TO THE BOOKS: `booked` of the question and the reply
+abbrev pub grantedBooks : (i virt pages : ℕ) → HandleReply → Books → Books
+grantedBooks i v n (h.Got k) b = puts i (bare v k n) b
+grantedBooks i v n h.Failed b = b
+grantedBooks i v n h.Wrong b = b
+
+abbrev pub mappedBooks : (i : ℕ) → MapReply → Books → Books
+mappedBooks i (d.Got address bytes) b = puts i (mappedAt (slotAt (b .lists .slots) i) address) b
+mappedBooks i d.Failed b = b
+mappedBooks i d.Wrong b = b
+
+abbrev pub answersBy : (i virt : ℕ) → Question → Answer → Books → Books
+answersBy i w (q.ConfigRead16 o) a b = b
+answersBy i w (q.ConfigRead32 o) a b = b
+answersBy i w (q.ConfigWrite16 o y) a b = b
+answersBy i w (q.ConfigWrite32 o y) a b = b
+answersBy i w (q.RegRead k o) a b = b
+answersBy i w (q.RegWrite k o y) a b = b
+answersBy i w (q.Attributes o y) a b = b
+answersBy i w (q.Resource k) a b = b
+answersBy i w (q.Stall u) a b = b
+answersBy i w (q.Allocate n) a b = grantedBooks i w n (grantedOf a) b
+answersBy i w (q.Map k n) a b = mappedBooks i (mappedOf a) b
+answersBy i w (q.Unmap k) a b = puts i (unmappedFrom (slotAt (b .lists .slots) i)) b
+answersBy i w (q.Free k n) a b = takenOff i b
+answersBy i w q.Fence a b = b
+answersBy i w q.Finished a b = b
+
+abbrev pub bookedBy : Place → Question → Answer → Books → Books
+bookedBy neither y a b = b
+bookedBy inbox y a b = answersBy INBOX 0 y a b
+bookedBy outbox y a b = answersBy OUTBOX 0 y a b
+bookedBy (slot i w) y a b = answersBy i w y a b
+
+abbrev pub bookedOf : Session → Answer → Session
+bookedOf s a = bookkeeps s (bookedBy (wants s) (asksOf s) a (s .books))
+
 -- A TURN: good, with the question that is now open; or refused, with everything as it was
 abbrev pub turnOf : Session → ℕ → Turn
 turnOf s u = record { session = s; refusal = f.Nothing; question = asksOf s; undo = u }
@@ -207,13 +261,13 @@ stepBoxOut s a y o top e.Going = wipedOut (wipeOf s a) o
 stepBoxOut s a y o top (e.Ended z) = endedOut (withWork s y) z o top
 
 unfoldable pub stepOf : Session → Answer → (resource inbox outbox : List ℕ) → Top → Turn
-stepOf s a r i o top = stepTurn s a (workStepOf (s .work) a r .work) i o top (workStepOf (s .work) a r .ending)
+stepOf s a r i o top = stepTurn (bookedOf s a) a (workStepOf (s .work) a r .work) i o top (workStepOf (s .work) a r .ending)
 
 unfoldable pub stepIn : Session → Answer → (resource inbox outbox : List ℕ) → Top → List ℕ
-stepIn s a r i o top = stepBoxIn s a (workStepOf (s .work) a r .work) i o top (workStepOf (s .work) a r .ending)
+stepIn s a r i o top = stepBoxIn (bookedOf s a) a (workStepOf (s .work) a r .work) i o top (workStepOf (s .work) a r .ending)
 
 unfoldable pub stepOut : Session → Answer → (resource outbox : List ℕ) → Top → List ℕ
-stepOut s a r o top = stepBoxOut s a (workStepOf (s .work) a r .work) o top (workStepOf (s .work) a r .ending)
+stepOut s a r o top = stepBoxOut (bookedOf s a) a (workStepOf (s .work) a r .work) o top (workStepOf (s .work) a r .ending)
 
 -- WHEN A CALL IS REFUSED. "20 answer of the wrong kind, or call at the wrong time", then "21 slice too short, or mailbox not 4,096 bytes". A struct whose counts
 -- are above its arrays is no session, and no call has its time there

@@ -4,32 +4,29 @@ use buffer::Freeing;
 use command::CmdEnd;
 use command::CmdResult;
 use dma::Buffer;
-use reset::Reset;
 use reset::ResetEnd;
-use session::Books;
 use session::Close;
 use session::Closing;
-use session::Fill;
+use session::Core;
 use session::Gave;
-use session::Held;
-use session::Hold;
-use session::Lists;
-use session::Planned;
-use session::Session;
+use session::Plan;
+use session::Slot;
 use session::Stage;
 use tasks::Parting;
 use work::End;
 use work::Task;
-use work::Work;
 ghost use mathlib.Core.Path.{_≡_};
+ghost use Rattle.work.specs.declared.Task.the-variants.{Rest};
+ghost use Rattle.session.specs.declared.Stage.the-variants.{Open, Ended};
+ghost use Rattle.session.specs.declared.Close.the-variants.{Free};
+ghost use Rattle.session.specs.Core.{full, planIn, PlanIs, startOf, closeAs};
+ghost use Rattle.behind.specs.Behind.{behindIn};
 ghost use mathlib.Core.Bool.{true};
+ghost use Prim.Native.Nat.{_-_};
 ghost use Rattle.command.specs.declared.CmdResult.the-variants.{Bus};
-ghost use Rattle.session.specs.Session.{planned};
-ghost use Rattle.session.specs.declared.Fill.the-variants.{Nothing};
-ghost use Rattle.closing_plan.specs.Closing.{isDone, isHeld, emptied};
-ghost use Rattle.closing_plan.specs.Plan.{cmdIn, resetIn, endsOf, closesOf, resetsOf, restorePlan, releasePlan, freePlan, givenPlan, outboxPlan, inboxPlan, faPlan, auxPlan};
-ghost use Rattle.closing_plan.specs.Plan.{icmPlan, lentPlan, givePlan};
-ghost use Rattle.closing_plan.specs.Plan.{restsOf};
+ghost use Rattle.session.specs.Session.{isHeld};
+ghost use Rattle.closing_plan.specs.Closing.{isDone};
+ghost use Rattle.closing_plan.specs.Plan.{cmdIn, resetIn, resetPlan, restorePlan, releasePlan, freePlan, freesPlan, givePlan};
 
 fn failed_command() -> CmdEnd
     ensures { λ r. ⌜ r ≡ record { result = Bus 0; toggle = true } ⌝ }
@@ -87,206 +84,90 @@ pub fn is_done(r: CmdResult) -> bool
     }
 }
 
-pub fn is_held(h: Hold) -> bool
-    ensures { λ b. ⌜ b ≡ isHeld h ⌝ }
+// There is a buffer in the slot.
+pub fn is_held(x: Slot) -> bool
+    ensures { λ b. ⌜ b ≡ isHeld x ⌝ }
 {
-    match h {
-        Hold::Absent => false,
-        Hold::Held(_) => true,
-    }
-}
-
-// The books once all is freed.
-pub fn emptied_books(b: Books) -> Books
-    ensures { λ r. ⌜ r ≡ emptied b ⌝ }
-{
-    let was = b.lists;
-    let lists = Lists {
-        ranges: 0,
-        lends: 0,
-        ..was
-    };
-    let held = Held {
-        inbox: Hold::Absent,
-        outbox: Hold::Absent,
-        fa: Hold::Absent,
-        aux: Hold::Absent,
-    };
-    Books { held, lists, ..b }
+    x.runs != 0
 }
 
 // The session ends, with nothing under way.
-pub fn ends(s: Session) -> Session
-    ensures { λ r. ⌜ r ≡ endsOf s ⌝ }
+pub fn ends(s: Core) -> Core
+    ensures { λ r. ⌜ r ≡ startOf s Ended Rest ⌝ }
 {
     s.start(Stage::Ended, Task::Rest)
 }
 
 // The session is open, with nothing under way.
-pub fn rests(s: Session, gave: Gave) -> Session
-    ensures { λ r. ⌜ r ≡ restsOf s gave ⌝ }
+pub fn rests(s: Core, gave: Gave) -> Core
+    ensures { λ r. ⌜ r ≡ startOf s (Open gave) Rest ⌝ }
 {
     s.start(Stage::Open(gave), Task::Rest)
 }
 
-pub fn closes(s: Session, closing: Closing, books: Books) -> Session
-    ensures { λ r. ⌜ r ≡ closesOf s closing books ⌝ }
+pub fn closes(s: Core, closing: Closing) -> Core
+    ensures { λ r. ⌜ r ≡ closeAs s closing ⌝ }
 {
-    Session {
-        closing,
-        books,
-        ..s
-    }
+    Core { closing, ..s }
 }
 
 // A reset begins.
-pub fn resets(s: Session, stage: Stage) -> Session
-    ensures { λ r. ⌜ r ≡ resetsOf s stage ⌝ }
+pub fn reset(s: Core, undo: usize) -> Plan
+    ensures { λ r. ⌜ PlanIs r (λ b. resetPlan (full s b) undo) ⌝ }
 {
-    let before = s.work;
-    let work = Work {
-        task: Task::Reset,
-        reset: Reset::start(),
-        ..before
-    };
-    Session { stage, work, ..s }
-}
-
-pub fn plan(session: Session, undo: usize) -> Planned
-    ensures { λ r. ⌜ r ≡ planned session Nothing undo ⌝ }
-{
-    Planned {
-        session,
-        fill: Fill::Nothing,
-        undo,
-    }
+    Plan::new(s.start(Stage::Close(Close::Reset), Task::Reset), undo)
 }
 
 // The attributes are set to what they were.
-pub fn restore(s: Session, undo: usize) -> Planned
-    ensures { λ r. ⌜ r ≡ restorePlan s undo ⌝ }
+pub fn restore(s: Core, undo: usize) -> Plan
+    ensures { λ r. ⌜ PlanIs r (λ b. restorePlan (full s b) undo) ⌝ }
 {
-    let books = s.books;
-    plan(
+    Plan::new(
         s.start(
             Stage::Close(Close::Restore),
-            Task::Part(Parting::Restore(books.original)),
+            Task::Part(Parting::Restore(s.original)),
         ),
         undo,
     )
 }
 
 // The card is given up.
-pub fn release(s: Session, undo: usize) -> Planned
-    ensures { λ r. ⌜ r ≡ releasePlan s undo ⌝ }
+pub fn release(s: Core, undo: usize) -> Plan
+    ensures { λ r. ⌜ PlanIs r (λ b. releasePlan (full s b) undo) ⌝ }
 {
-    plan(
+    Plan::new(
         s.start(Stage::Close(Close::Release), Task::Part(Parting::Disown)),
         undo,
     )
 }
 
-fn free(s: Session, stage: Close, b: Buffer, undo: usize) -> Planned
-    ensures { λ r. ⌜ r ≡ freePlan s stage b undo ⌝ }
+fn free(s: Core, i: usize, b: Buffer, undo: usize) -> Plan
+    ensures { λ r. ⌜ PlanIs r (λ y. freePlan (full s y) (Free i) b undo) ⌝ }
 {
-    plan(
-        s.start(Stage::Close(stage), Task::Free(Freeing::start(b))),
+    Plan::new(
+        s.start(Stage::Close(Close::Free(i)), Task::Free(Freeing::start(b))),
         undo,
     )
 }
 
-// All is freed.
-pub fn given(s: Session, undo: usize) -> Planned
-    ensures { λ r. ⌜ r ≡ givenPlan s undo ⌝ }
+// The next slot from i on that has a buffer is freed; behind the last the card is given up.
+pub fn free_from(s: Core, i: usize, undo: usize, m: &[u8]) -> Plan
+    ensures { λ r. ⌜ planIn r (behindIn (now (m .entry))) ≡ freesPlan (82 - i) i (full s (behindIn (now (m .entry)))) undo ⌝ }
 {
-    let books = s.books;
-    let closing = s.closing;
-    release(closes(s, closing, emptied_books(books)), undo)
-}
-
-pub fn free_outbox(s: Session, undo: usize) -> Planned
-    ensures { λ r. ⌜ r ≡ outboxPlan s undo ⌝ }
-{
-    let books = s.books;
-    let held = books.held;
-    let hold = held.outbox;
-    match hold {
-        Hold::Absent => given(s, undo),
-        Hold::Held(b) => free(s, Close::FreeOutbox, b, undo),
+    let mut k = i;
+    while k < Slot::COUNT {
+        let slot = behind::slot_at(m, k);
+        if is_held(slot) {
+            return free(s, k, session::buffer_of(slot), undo);
+        }
+        k = k + 1;
     }
-}
-
-pub fn free_inbox(s: Session, undo: usize) -> Planned
-    ensures { λ r. ⌜ r ≡ inboxPlan s undo ⌝ }
-{
-    let books = s.books;
-    let held = books.held;
-    let hold = held.inbox;
-    match hold {
-        Hold::Absent => free_outbox(s, undo),
-        Hold::Held(b) => free(s, Close::FreeInbox, b, undo),
-    }
-}
-
-pub fn free_fa(s: Session, undo: usize) -> Planned
-    ensures { λ r. ⌜ r ≡ faPlan s undo ⌝ }
-{
-    let books = s.books;
-    let held = books.held;
-    let hold = held.fa;
-    match hold {
-        Hold::Absent => free_inbox(s, undo),
-        Hold::Held(b) => free(s, Close::FreeFa, b, undo),
-    }
-}
-
-fn free_aux(s: Session, undo: usize) -> Planned
-    ensures { λ r. ⌜ r ≡ auxPlan s undo ⌝ }
-{
-    let books = s.books;
-    let held = books.held;
-    let hold = held.aux;
-    match hold {
-        Hold::Absent => free_fa(s, undo),
-        Hold::Held(b) => free(s, Close::FreeAux, b, undo),
-    }
-}
-
-// Range i and those mapped after it.
-pub fn free_icm(s: Session, i: usize, undo: usize) -> Planned
-    ensures { λ r. ⌜ r ≡ icmPlan s i undo ⌝ }
-{
-    let books = s.books;
-    let lists = books.lists;
-    let icm = lists.icm;
-    if i < lists.ranges {
-        return free(
-            s,
-            Close::FreeIcm(i + 1),
-            session::buffer_of(session::icm_at(icm, i)),
-            undo,
-        );
-    }
-    free_aux(s, undo)
-}
-
-// Lent buffer i and those lent after it.
-pub fn free_lent(s: Session, i: usize, undo: usize) -> Planned
-    ensures { λ r. ⌜ r ≡ lentPlan s i undo ⌝ }
-{
-    let books = s.books;
-    let lists = books.lists;
-    let lent = lists.lent;
-    if i < lists.lends {
-        return free(s, Close::FreeLent(i + 1), session::lent_at(lent, i), undo);
-    }
-    free_icm(s, 0, undo)
+    release(s, undo)
 }
 
 // Everything goes back.
-pub fn give(s: Session, closing: Closing, undo: usize) -> Planned
-    ensures { λ r. ⌜ r ≡ givePlan s closing undo ⌝ }
+pub fn give(s: Core, closing: Closing, undo: usize, m: &[u8]) -> Plan
+    ensures { λ r. ⌜ planIn r (behindIn (now (m .entry))) ≡ givePlan (full s (behindIn (now (m .entry)))) closing undo ⌝ }
 {
-    let books = s.books;
-    free_lent(closes(s, closing, books), 0, undo)
+    free_from(closes(s, closing), 0, undo, m)
 }

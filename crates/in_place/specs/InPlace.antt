@@ -11,6 +11,7 @@ use Rattle.hcr.specs.Words.{register, goWord, pendingIn, statusIn, stallOf, swa
 use Rattle.hcr.specs.declared.Post.{Post}
 use Rattle.command.specs.Script.{STALLS}
 use Rattle.command.specs.Machine.{wordNo, wordAt}
+use Rattle.words.specs.Places.{stateBytes}
 use Rattle.words.specs.Words.{at, bitOf, within, wordsIn, putWords}
 use Rattle.words_calls.specs.Calls.{turnIn, heardOf}
 use Rattle.pci.specs.declared.Answer.{Answer}
@@ -86,7 +87,7 @@ firstWords s = pick (within s 0 10) (wordsIn s 0 10) (replicate 10 0)
 
 -- all that is lent is long enough
 abbrev pub readyFor : (state inbox outbox : List ℕ) → ℕ → (out : List ℕ) → Bool
-readyFor s i u m w = not (ltb (length s) 3336) && (eqb (length i) 4096 && (eqb (length u) 4096 && (not (ltb 256 m) && leb 40 (length w))))
+readyFor s i u m w = not (ltb (length s) stateBytes) && (eqb (length i) 4096 && (eqb (length u) 4096 && (not (ltb 256 m) && leb 40 (length w))))
 
 -- what comes next, where all is lent that is asked for
 abbrev pub onwardOf : (state : List ℕ) → Answer → (inbox outbox : List ℕ) → ℕ → (out : List ℕ) → Next

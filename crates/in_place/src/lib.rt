@@ -151,7 +151,7 @@ pub fn next_at(state: &[u8], kind: u32, a: u64) -> Next
 pub fn is_ready(state: &[u8], inbox: &[u8], outbox: &[u8], undo: usize, out: &[u8]) -> bool
     ensures { λ r. ⌜ r ≡ readyFor (now (state .entry)) (now (inbox .entry)) (now (outbox .entry)) undo (now (out .entry)) ⌝ }
 {
-    if state.len() < 3336 {
+    if state.len() < words::STATE_BYTES {
         return false;
     }
     if inbox.len() != 4096 {

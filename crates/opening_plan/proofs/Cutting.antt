@@ -57,13 +57,13 @@ module _ (a : Area) (next : Books → Here → Course Rest) (n : Info) where
   -- one more mailbox, and then the rest
   abbrev pub onward : (Books → Here → Course Rest) → Cutter → Books → Here → Course Rest
   onward rest c b h =
-      sends b (withInOf (b .held) (opFor a) (length (firstBlocks 63 256 c) % 2 ^ 32)) (λ r d j. onGood r (λ e i. rest e i) n d j)
+      sends b (withInOf b (opFor a) (length (firstBlocks 63 256 c) % 2 ^ 32)) (λ r d j. onGood r (λ e i. rest e i) n d j)
       (holds (filledAt 63 256 c (h .inbox)) h)
 
   pub onward-same : (f g : Books → Here → Course Rest) (c : Cutter) (b : Books) (h : Here) → ((d : Books) (j : Here) → f d j ≡ g d j) → onward f c b h ≡ onward g c b h
   onward-same f g c b h e =
-      run-same neither (command (catasFor (b .wire)) (filledAt 63 256 c (h .inbox)) (b .wire .toggle) (withInOf (b .held) (opFor a) (length (firstBlocks 63 256 c) % 2 ^ 32))) _ _ _
-      (λ x j. ap (λ (t : Course Rest). pick (isDone (x .result)) t (failsBy (x .result) n (wired b (after (b .wire) x)) j)) (e (wired b (after (b .wire) x)) j))
+      run-same neither (command (catasFor (b .wire)) (filledAt 63 256 c (h .inbox)) (b .wire .toggle) (withInOf b (opFor a) (length (firstBlocks 63 256 c) % 2 ^ 32))) _ _ b _
+      (λ x d j. ap (λ (t : Course Rest). pick (isDone (x .result)) t (failsBy (x .result) n (wired d (after (d .wire) x)) j)) (e (wired d (after (d .wire) x)) j))
 
   step-any : (f g : Books → Here → Course Rest) (c : Cutter) (b : Books) (h : Here) (t : Bool) → eqb (c .left) 0 ≡ t
       → ((c .left ≡ 0 → ⊥) → (d : Books) (j : Here) → f d j ≡ g d j) → pick t (next b h) (onward f c b h) ≡ pick t (next b h) (onward g c b h)

@@ -13,6 +13,7 @@ use Rattle.dma.specs.Buffers.{pagesFor}
 use Rattle.dma.specs.PageList.{firstBlocks, behind, listedOf, filledAt}
 use Rattle.dma.specs.declared.Cutter.{Cutter}
 use Rattle.hcr.specs.declared.Post.{Post}
+use Rattle.pci.specs.Script.{_>>=_}
 use Rattle.pci.specs.Script as sc
 use Rattle.pci.specs.declared.Refusal.{Refusal}
 use Rattle.pci.specs.declared.Refusal.the-variants as x
@@ -34,8 +35,6 @@ use Rattle.reset.specs.Reset.{isGood}
 use Rattle.reset.specs.Steps.{resetScript}
 use Rattle.reset.specs.Steps as rs
 use Rattle.buffer.specs.Buffer.{byOutcome, allocating}
-use Rattle.buffer.specs.Steps.{freeScript, startFree}
-use Rattle.buffer.specs.declared.Fault.{Fault}
 use Rattle.buffer.specs.declared.MakePhase.the-variants as mp
 use Rattle.buffer.specs.declared.Made.{Made}
 use Rattle.buffer.specs.declared.Made.the-variants as m
@@ -54,11 +53,9 @@ use Rattle.work.specs.declared.Task.the-variants as t
 use Rattle.work.specs.declared.End.{End}
 use Rattle.work.specs.declared.End.the-variants as e
 use Rattle.session.specs.Failures.{brokenBy, failureOf, faultOf, immediateOf, madeIn, needsReset}
-use Rattle.session.specs.Session.{starts, bookkeeps, informs, sendsOf, tookOf, planned, immOf, withInOf, withOutOf, catasFor}
-use Rattle.session.specs.Course.{Course, ret, Here, left, neither, inbox, outbox, zeroed, run, sends, Rest}
+use Rattle.session.specs.Session.{starts, bookkeeps, informs, sendsOf, tookOf, planned, immOf, withInOf, withOutOf, catasFor, wired, after}
+use Rattle.session.specs.Course.{Course, ret, Here, left, Place, neither, inbox, outbox, zeroed, run, sends, Rest}
 use Rattle.session.proofs.Courses.{run-turned, run-same}
-use Rattle.session.specs.declared.Hold.{Hold}
-use Rattle.session.specs.declared.Hold.the-variants as o
 use Rattle.session.specs.declared.Books.{Books}
 use Rattle.session.specs.declared.Info.{Info}
 use Rattle.session.specs.declared.Area.{Area}
@@ -74,13 +71,13 @@ use Rattle.session.specs.declared.Fill.{Fill}
 use Rattle.session.specs.declared.Fill.the-variants as w
 use Rattle.session.specs.declared.Session.{Session}
 use Rattle.session.specs.declared.Planned.{Planned}
-use Rattle.closing_plan.specs.Closing.{isDone, emptied, inHold, parted, freed}
-use Rattle.closing_plan.specs.Plan.{cmdIn, resetIn, tookBooks, onHold}
+use Rattle.closing_plan.specs.Closing.{isDone, parted}
+use Rattle.closing_plan.specs.Plan.{cmdIn, resetIn}
 use Rattle.closing_plan.proofs.Lands as z
 use Rattle.client_plan.specs.Plan.{clientCourse}
-use Rattle.opening_plan.specs.Values.{refusalOf, fwFailureOf, withToggle, withCatas, withOriginal, withInbox, withOutbox, nowStarted, layoutIn, rangeAt, opFor, enters, cutterFor, withUar, withRevision, withCap, withFunc, withPort}
+use Rattle.opening_plan.specs.Values.{refusalOf, fwFailureOf, withToggle, withCatas, withOriginal, nowStarted, layoutIn, rangeAt, opFor, placeFor, enters, cutIn, withUar, withRevision, withCap, withFunc, withPort}
 use Rattle.opening_plan.specs.Opening.{fails, failsBy, onGood, onValue, holds, opened, queryAdapter, queryFunc, initHca, mapping, onMade, mapIcm, areaFor, setIcmSize, layingOut, queryPorts, portsOf, queryDevCap, modStat, runFw, fwReply, queryFw, look, makeOutbox, giveInbox, makeInbox, onFound, findUar, firstReset, onClaimed, claim, onEnabled, enable}
-use Rattle.opening_plan.specs.Plan.{attrIn, claimIn, barIn, toggleIn, withFailure, failPlan, givesUp, partPlan, failByPlan, askPlan, givePlan, funcPlan, makePlan, rangePlan, nextRange, mappedPlan, mapPlan, areaPlan, layoutPlan, portPlan, fwReplied, capReplied, portReplied, funcReplied, bootPlan, attrPlan, claimPlan, resetPlan, barPlan, inboxPlan, outboxPlan, preparePlan, openPlan, lists, nextOf, afterBoot, bootCourse, afterPrepare, prepareCourse}
+use Rattle.opening_plan.specs.Plan.{attrIn, claimIn, barIn, toggleIn, withFailure, failPlan, givesUp, partPlan, failByPlan, askPlan, givePlan, funcPlan, makePlan, rangePlan, nextRange, mappedPlan, mapPlan, areaPlan, layoutPlan, portPlan, fwReplied, capReplied, portReplied, funcReplied, bootPlan, attrPlan, claimPlan, resetPlan, barPlan, inboxPlan, outboxPlan, preparePlan, openPlan, lists, nextOf, afterBoot, placeBoot, bootCourse, afterPrepare, prepareCourse}
 use Rattle.opening_plan.proofs.Cutting.{mapping-none, mapping-any, mapping-suc, onward-same, behind-less, positive}
 
 -- what the session means once a mailbox is written
@@ -109,28 +106,30 @@ fail-by-leads s r h = fail-leads (bookkeeps s (brokenBy r (s .books))) (failureO
 part-leads : (s : Session) (y : Refusal) (b : Books) (h : Here) → leads (partPlan s y b (h .undo)) h ≡ parted (s .info) (f.By y) c.Clean b h
 part-leads s y b h = z.release-leads prepareCourse bootCourse clientCourse wrote (givesUp s y b) h
 
--- A COMMAND, and what follows it; `i` is what the inbox and outbox hold then
-module _ (s : Session) (st : Boot) (y : Post) (K : CmdResult → Books → Here → Course Rest) (goes : (v : CmdEnd) (j : Here) → afterBoot st (sendsOf s (g.Boot st) y) (e.Cmd v) j ≡ K (v .result) (tookBooks s (e.Cmd v)) j) where
+-- A COMMAND, and what follows it
+module _ (s : Session) (st : Boot) (y : Post) (K : CmdResult → Books → Here → Course Rest) (still : placeBoot st (s .info) ≡ neither)
+    (goes : (v : CmdEnd) (d : Books) (j : Here) → afterBoot st (bookkeeps (sendsOf s (g.Boot st) y) d) (e.Cmd v) j ≡ K (v .result) (wired d (after (d .wire) v)) j) where
   send-leads : (h : Here) → bootCourse st (sendsOf s (g.Boot st) y) h ≡ sends (s .books) y K h
   unfolding bootCourse cmdScript
   send-leads h =
-      run-turned neither (cmdScript (h .inbox) (first y (s .books .wire .toggle) (catasFor (s .books .wire)))) (λ v. e.Cmd v) (afterBoot st (sendsOf s (g.Boot st) y)) h
-      ∙ run-same neither (command (catasFor (s .books .wire)) (h .inbox) (s .books .wire .toggle) y) (λ v j. afterBoot st (sendsOf s (g.Boot st) y) (e.Cmd v) j) (λ v j. K (v .result) (tookBooks s (e.Cmd v)) j) h goes
+      ap (λ (x : Place). run x (cmdScript (h .inbox) (first y (s .books .wire .toggle) (catasFor (s .books .wire))) >>= (λ v. sc.ret (e.Cmd v))) (λ e d j. afterBoot st (bookkeeps (sendsOf s (g.Boot st) y) d) e j) (s .books) h) still
+      ∙ run-turned neither (cmdScript (h .inbox) (first y (s .books .wire .toggle) (catasFor (s .books .wire)))) (λ v. e.Cmd v) _ (s .books) h
+      ∙ run-same neither (command (catasFor (s .books .wire)) (h .inbox) (s .books .wire .toggle) y) _ _ (s .books) h goes
 
 adapter-leads : (s : Session) (h : Here) → leads (askPlan s k.Adapter 0x006 0 (h .undo)) h ≡ queryAdapter (s .info) (s .books) h
 unfolding queryAdapter
-adapter-leads s h = send-leads s k.Adapter (withOutOf (s .books .held) 0x006 0) (λ r d j. opened (s .info) d j) (λ v j. refl) (zeroed outbox h)
+adapter-leads s h = send-leads s k.Adapter (withOutOf (s .books) 0x006 0) (λ r d j. opened (s .info) d j) refl (λ v d j. refl) (zeroed outbox h)
 
 func-leads : (s : Session) (h : Here) → leads (funcPlan s (h .undo)) h ≡ queryFunc (s .info) (s .books) h
 unfolding funcPlan queryFunc
 func-leads s h =
     pick-leads (eqb (s .info .cap .«num_sys_eqs») 0) _ _ h _ _ (adapter-leads s h)
-    (send-leads s k.Func (withOutOf (s .books .held) 0x056 0)
-    (λ r d j. onGood r (λ b i. onValue (queryFuncOf (i .outbox)) (λ y. queryAdapter (withFunc (s .info) y) b i) (s .info) b i) (s .info) d j) (λ v j. refl) (zeroed outbox h))
+    (send-leads s k.Func (withOutOf (s .books) 0x056 0)
+    (λ r d j. onGood r (λ b i. onValue (queryFuncOf (i .outbox)) (λ y. queryAdapter (withFunc (s .info) y) b i) (s .info) b i) (s .info) d j) refl (λ v d j. refl) (zeroed outbox h))
 
 init-leads : (s : Session) (h : Here) → leads (givePlan s k.InitHca 0x007 w.InitHca (h .undo)) h ≡ initHca (s .info) (s .books) h
 unfolding initHca
-init-leads s h = send-leads s k.InitHca (withInOf (s .books .held) 0x007 0) (λ r d j. onGood r (λ b i. queryFunc (s .info) (nowStarted b) i) (s .info) d j) (λ v j. refl) (holds (filledBy (h .inbox) (fieldsOf (initOf (s .info .cap) (layoutIn (s .info) .rows)))) h)
+init-leads s h = send-leads s k.InitHca (withInOf (s .books) 0x007 0) (λ r d j. onGood r (λ b i. queryFunc (s .info) (nowStarted b) i) (s .info) d j) refl (λ v d j. refl) (holds (filledBy (h .inbox) (fieldsOf (initOf (s .info .cap) (layoutIn (s .info) .rows)))) h)
 
 -- a buffer for an area: too many bytes are refused before any question
 whole : (n : ℕ) → n * 4096 / 4096 ≡ n
@@ -138,17 +137,18 @@ whole n = omega arith
 
 module _ (s : Session) (a : Area) (h : Here) where
   -- what follows the making
-  abbrev made : Made → Here → Course Rest
-  made y j =
-      onMade y (λ b. mapping a (nextOf a (s .info)) (cutterFor (s .info) a b .left) (cutterFor (s .info) a b) (s .info) (enters (s .info) a b (s .books)) j)
-      (λ e. fails (faultOf e) (s .info) (s .books) j)
+  abbrev made : Made → Books → Here → Course Rest
+  made y d j =
+      onMade y (λ b. mapping a (nextOf a (s .info)) (cutIn (s .info) a d .left) (cutIn (s .info) a d) (s .info) (enters a d) j)
+      (λ e. fails (faultOf e) (s .info) d j)
 
   pages-leads : (v : Outcome ℕ)
       → leads (byOutcome v (λ n. planned (starts s (g.Boot (k.Make a)) (t.Make (record { bytes = n * 4096; phase = mp.Allocate }))) w.Nothing (h .undo .count)) (failPlan s x.Address (h .undo))) h
-      ≡ run neither (byOutcome v allocating (sc.ret (m.Refused q.Address))) made h
+      ≡ run (placeFor (s .info) a) (byOutcome v allocating (sc.ret (m.Refused q.Address))) made (s .books) h
   unfolding bootCourse
   pages-leads (value n) =
-      run-turned neither (allocating (n * 4096 / 4096)) (λ y. e.Made y) (afterBoot (k.Make a) s) h ∙ ap (λ (i : ℕ). run neither (allocating i) made h) (whole n)
+      run-turned (placeFor (s .info) a) (allocating (n * 4096 / 4096)) (λ y. e.Made y) (λ y d j. afterBoot (k.Make a) (bookkeeps s d) y j) (s .books) h
+      ∙ ap (λ (i : ℕ). run (placeFor (s .info) a) (allocating i) made (s .books) h) (whole n)
   pages-leads (refused i vs) = fail-leads s x.Address h
 
   make-leads : (bytes : ℕ) → leads (makePlan s a bytes (h .undo)) h ≡ areaFor a bytes (nextOf a (s .info)) (s .info) (s .books) h
@@ -169,7 +169,7 @@ next-range-leads s i h false d =
 
 mapped-leads : (s : Session) (a : Area) (h : Here) → leads (mappedPlan s a (h .undo)) h ≡ nextOf a (s .info) (s .books) h
 unfolding mappedPlan runFw mapIcm nextRange
-mapped-leads s a.Fa h = send-leads s k.RunFw (immOf 0xff6 0 0 0) (λ r d j. onGood r (λ b i. modStat (s .info) b i) (s .info) d j) (λ v j. refl) h
+mapped-leads s a.Fa h = send-leads s k.RunFw (immOf 0xff6 0 0 0) (λ r d j. onGood r (λ b i. modStat (s .info) b i) (s .info) d j) refl (λ v d j. refl) h
 mapped-leads s a.Aux h = make-leads s (a.Range 0) h (rangeAt (s .info) 0 .bytes)
 mapped-leads s (a.Range i) h = next-range-leads s i h (ltb i 13) refl
 
@@ -181,8 +181,8 @@ map-by s a y h true d = mapped-leads s a h ∙ sym (mapping-none a (nextOf a (s 
 map-by s a y h false d =
     let z = eqb-false (y .left) 0 d in let l = behind-less 255 y z in
     let m : suc (y .left - 1) ≡ y .left = positive (y .left) z in
-    send-leads (starts s (g.Boot (k.Map a y)) t.Rest) (k.Map a (behind 63 256 y)) (withInOf (s .books .held) (opFor a) (length (firstBlocks 63 256 y) % 2 ^ 32))
-    (λ r c j. onGood r (λ b i. mapping a (nextOf a (s .info)) (behind 63 256 y .left) (behind 63 256 y) (s .info) b i) (s .info) c j) (λ v j. refl)
+    send-leads (starts s (g.Boot (k.Map a y)) t.Rest) (k.Map a (behind 63 256 y)) (withInOf (s .books) (opFor a) (length (firstBlocks 63 256 y) % 2 ^ 32))
+    (λ r c j. onGood r (λ b i. mapping a (nextOf a (s .info)) (behind 63 256 y .left) (behind 63 256 y) (s .info) b i) (s .info) c j) refl (λ v d j. refl)
     (holds (filledAt 63 256 y (h .inbox)) h)
     ∙ (onward-same a (nextOf a (s .info)) (s .info) _ _ y (s .books) h
     (λ b j. mapping-any a (nextOf a (s .info)) (s .info) (behind 63 256 y .left) (y .left - 1) (behind 63 256 y) b j (let g : behind 63 256 y .left ≤ behind 63 256 y .left = omega arith in g) l)
@@ -193,7 +193,7 @@ unfolding mapPlan
 map-leads s a y h = map-by s a y h (eqb (y .left) 0) refl
 
 area-leads : (s : Session) (a : Area) (y : Made) (h : Here) → leads (areaPlan s a y (h .undo)) h ≡ afterBoot (k.Make a) s (e.Made y) h
-area-leads s a (m.Ready y) h = map-leads (bookkeeps s (enters (s .info) a y (s .books))) a (cutterFor (s .info) a y) h
+area-leads s a (m.Ready y) h = map-leads (bookkeeps s (enters a (s .books))) a (cutIn (s .info) a (s .books)) h
 area-leads s a (m.Refused y) h = fail-leads s (faultOf y) h
 
 -- the layout, accepted or not
@@ -202,7 +202,7 @@ layout-by : (s : Session) (v : Outcome Layout) (h : Here) → profileOf (s .info
 unfolding layoutPlan setIcmSize
 layout-by s (value y) h d =
     send-leads s k.IcmSize (immOf 0xffd 0 0 (y .total))
-    (λ r b j. onGood r (λ c i. areaFor a.Aux (immediateOf r * 4096) (mapIcm 14 0 (s .info)) (s .info) c i) (s .info) b j) (λ v j. refl) h
+    (λ r b j. onGood r (λ c i. areaFor a.Aux (immediateOf r * 4096) (mapIcm 14 0 (s .info)) (s .info) c i) (s .info) b j) refl (λ v d j. refl) h
     ∙ ap (λ (i : ℕ). sends (s .books) (immOf 0xffd 0 0 i) (λ r b j. onGood r (λ c i. areaFor a.Aux (immediateOf r * 4096) (mapIcm 14 0 (s .info)) (s .info) c i) (s .info) b j) h) (ap (λ (v : Outcome Layout). valueOr noLayout v .total) (sym d))
 layout-by s (refused i vs) h d = fail-leads s (refusalOf i vs) h
 
@@ -218,8 +218,8 @@ unfolding queryPorts
 port-by s i h true d =
     let l : i < portsOf (s .info) = ltb-true i (portsOf (s .info)) d in let m : portsOf (s .info) - i ≡ suc (portsOf (s .info) - suc i) = omega arith in
     ap (λ (j : ℕ). leads (askPlan s (k.Port j) 0x043 j (h .undo)) h) (add-one i)
-    ∙ (send-leads s (k.Port (suc i)) (withOutOf (s .books .held) 0x043 (suc i))
-    (λ r d j. onGood r (λ b v. onValue (queryPortOf (v .outbox) (suc i)) (λ y. queryPorts (portsOf (s .info) - suc i) (suc (suc i)) (withPort (s .info) (suc i) y) b v) (s .info) b v) (s .info) d j) (λ v j. refl) (zeroed outbox h)
+    ∙ (send-leads s (k.Port (suc i)) (withOutOf (s .books) 0x043 (suc i))
+    (λ r d j. onGood r (λ b v. onValue (queryPortOf (v .outbox) (suc i)) (λ y. queryPorts (portsOf (s .info) - suc i) (suc (suc i)) (withPort (s .info) (suc i) y) b v) (s .info) b v) (s .info) d j) refl (λ v d j. refl) (zeroed outbox h)
     ∙ sym (ap (λ (j : ℕ). queryPorts j (suc i) (s .info) (s .books) h) m))
 port-by s i h false d =
     let l : portsOf (s .info) ≤ i = ltb-false i (portsOf (s .info)) d in let m : portsOf (s .info) - i ≡ 0 = omega arith in
@@ -268,12 +268,12 @@ good-leads s y next h v d = pick-leads (isDone (y .result)) _ _ h _ _ d (fail-by
 
 stat-leads : (s : Session) (h : Here) → leads (givePlan s k.ModStat 0x034 w.ModStat (h .undo)) h ≡ modStat (s .info) (s .books) h
 unfolding modStat
-stat-leads s h = send-leads s k.ModStat (withInOf (s .books .held) 0x034 0) (λ r d j. pick (needsReset r) (failsBy r (s .info) d j) (queryDevCap (s .info) d j)) (λ v j. refl) (holds (filledBy (h .inbox) modStatCfg) h)
+stat-leads s h = send-leads s k.ModStat (withInOf (s .books) 0x034 0) (λ r d j. pick (needsReset r) (failsBy r (s .info) d j) (queryDevCap (s .info) d j)) refl (λ v d j. refl) (holds (filledBy (h .inbox) modStatCfg) h)
 
 cap-leads : (s : Session) (h : Here) → leads (askPlan s k.DevCap 0x003 0 (h .undo)) h ≡ queryDevCap (s .info) (s .books) h
 unfolding queryDevCap
-cap-leads s h = send-leads s k.DevCap (withOutOf (s .books .held) 0x003 0)
-    (λ r d j. onGood r (λ b i. onValue (capabilityOf (i .outbox) (s .info .uar .size)) (λ y. queryPorts (portsOf (withCap (s .info) y)) 1 (withCap (s .info) y) b i) (s .info) b i) (s .info) d j) (λ v j. refl) (zeroed outbox h)
+cap-leads s h = send-leads s k.DevCap (withOutOf (s .books) 0x003 0)
+    (λ r d j. onGood r (λ b i. onValue (capabilityOf (i .outbox) (s .info .uar .size)) (λ y. queryPorts (portsOf (withCap (s .info) y)) 1 (withCap (s .info) y) b i) (s .info) b i) (s .info) d j) refl (λ v d j. refl) (zeroed outbox h)
 
 -- WHEN A TASK OF BRING-UP HAS ENDED, the plan leads where the course goes on
 pub boot-lands : (st : Boot) (s : Session) (y : End) (h : Here) → leads (bootPlan s st y (h .outbox) (h .undo)) h ≡ afterBoot st s y h
@@ -295,49 +295,42 @@ boot-lands k.Adapter s y h = refl
 -- BEFORE BRING-UP
 fw-leads : (s : Session) (h : Here) → leads (askPlan s k.QueryFw 0x004 0 (h .undo)) h ≡ queryFw (s .info) (s .books) h
 unfolding queryFw
-fw-leads s h = send-leads s k.QueryFw (withOutOf (s .books .held) 0x004 0)
-    (λ r d j. pick (isDone r) (fwReply (s .info) d j) (fails (fwFailureOf r) (s .info) (brokenBy r d) j)) (λ v j. refl) (zeroed outbox h)
+fw-leads s h = send-leads s k.QueryFw (withOutOf (s .books) 0x004 0)
+    (λ r d j. pick (isDone r) (fwReply (s .info) d j) (fails (fwFailureOf r) (s .info) (brokenBy r d) j)) refl (λ v d j. refl) (zeroed outbox h)
 
 look-leads : (s : Session) (h : Here) → leads (planned (starts s (g.Prepare p.Look) t.Look) w.Nothing (h .undo .count)) h ≡ look (s .info) (s .books) h
 unfolding look prepareCourse
-look-leads s h = run-turned neither looking (λ v. e.Looked v) (afterPrepare p.Look s) h
-
-gives-inbox-leads : (s : Session) (y : Fault) (v : Hold) (h : Here)
-    → leads (onHold v (λ b. planned (starts s (g.Prepare (p.GiveInbox y)) (t.Free (startFree b))) w.Nothing (h .undo .count)) (partPlan s (faultOf y) (emptied (s .books)) (h .undo))) h
-    ≡ freed (s .info) (f.By (faultOf y)) (inHold v) (λ j. parted (s .info) (f.By (faultOf y)) c.Clean (emptied (s .books)) j) h
-unfolding freed prepareCourse
-gives-inbox-leads s y o.Absent h = part-leads s (faultOf y) (emptied (s .books)) h
-gives-inbox-leads s y (o.Held b) h = run-turned neither (freeScript (startFree b)) (λ v. e.Freed) (afterPrepare (p.GiveInbox y) s) h
+look-leads s h = run-turned neither looking (λ v. e.Looked v) (λ y d j. afterPrepare p.Look (bookkeeps s d) y j) (s .books) h
 
 outbox-leads : (s : Session) (y : Made) (h : Here) → leads (outboxPlan s y (h .undo)) h ≡ afterPrepare p.Outbox s (e.Made y) h
 unfolding giveInbox
-outbox-leads s (m.Ready y) h = look-leads (bookkeeps s (withOutbox (s .books) y)) h
-outbox-leads s (m.Refused y) h = gives-inbox-leads s y (s .books .held .inbox) h
+outbox-leads s (m.Ready y) h = look-leads s h
+outbox-leads s (m.Refused y) h = z.give-leads prepareCourse bootCourse clientCourse wrote (givesUp s (faultOf y) (s .books)) c.Clean h
 
 inbox-leads : (s : Session) (y : Made) (h : Here) → leads (inboxPlan s y (h .undo)) h ≡ afterPrepare p.Inbox s (e.Made y) h
 unfolding makeOutbox prepareCourse
-inbox-leads s (m.Ready y) h = run-turned outbox (allocating 1) (λ v. e.Made v) (afterPrepare p.Outbox (bookkeeps s (withInbox (s .books) y))) h
+inbox-leads s (m.Ready y) h = run-turned outbox (allocating 1) (λ v. e.Made v) (λ y d j. afterPrepare p.Outbox (bookkeeps s d) y j) (s .books) h
 inbox-leads s (m.Refused y) h = part-leads s (faultOf y) (s .books) h
 
 bar-leads : (s : Session) (y : Found) (h : Here) → leads (barPlan s y (h .undo)) h ≡ onFound y (s .info) (s .books) h
 unfolding makeInbox prepareCourse
-bar-leads s (u.Bar y) h = run-turned inbox (allocating 1) (λ v. e.Made v) (afterPrepare p.Inbox (informs s (withUar (s .info) y))) h
+bar-leads s (u.Bar y) h = run-turned inbox (allocating 1) (λ v. e.Made v) (λ v d j. afterPrepare p.Inbox (bookkeeps (informs s (withUar (s .info) y)) d) v j) (s .books) h
 bar-leads s u.Refused h = part-leads s x.Bar (s .books) h
 bar-leads s u.BadList h = part-leads s x.List (s .books) h
 
 reset-leads : (s : Session) (y : End) (h : Here) → leads (resetPlan s (resetIn y) (h .undo)) h ≡ afterPrepare p.Reset s y h
 unfolding findUar prepareCourse
 reset-leads s y h =
-    pick-leads (isGood (resetIn y)) _ _ h _ _ (run-turned neither (barScript started) (λ v. e.Bar v) (afterPrepare p.Bar s) h) (part-leads s x.Reset (s .books) h)
+    pick-leads (isGood (resetIn y)) _ _ h _ _ (run-turned neither (barScript started) (λ v. e.Bar v) (λ y d j. afterPrepare p.Bar (bookkeeps s d) y j) (s .books) h) (part-leads s x.Reset (s .books) h)
 
 claim-leads : (s : Session) (y : Claimed) (h : Here) → leads (claimPlan s y (h .undo)) h ≡ onClaimed y (s .info) (s .books) h
 unfolding firstReset prepareCourse
-claim-leads s l.Good h = run-turned neither (resetScript rs.started) (λ v. e.Reset v) (afterPrepare p.Reset s) h
+claim-leads s l.Good h = run-turned neither (resetScript rs.started) (λ v. e.Reset v) (λ y d j. afterPrepare p.Reset (bookkeeps s d) y j) (s .books) h
 claim-leads s l.Refused h = z.restore-leads prepareCourse bootCourse clientCourse wrote (givesUp s x.Owner (s .books)) h
 
 attr-leads : (s : Session) (y : Attributes) (h : Here) → leads (attrPlan s y (h .undo)) h ≡ onEnabled y (s .info) (s .books) h
 unfolding claim prepareCourse
-attr-leads s (at.Enabled v) h = run-turned neither claiming (λ y. e.Claim y) (afterPrepare p.Claim (bookkeeps s (withOriginal (s .books) v))) h
+attr-leads s (at.Enabled v) h = run-turned neither claiming (λ y. e.Claim y) (λ y d j. afterPrepare p.Claim (bookkeeps s d) y j) (withOriginal (s .books) v) h
 attr-leads s at.Refused h = refl
 
 pub prepare-lands : (st : Prepare) (s : Session) (y : End) (h : Here) → leads (preparePlan s st y (h .undo)) h ≡ afterPrepare st s y h
@@ -348,10 +341,9 @@ prepare-lands p.Reset s y h = reset-leads s y h
 prepare-lands p.Bar s y h = bar-leads s (barIn y) h
 prepare-lands p.Inbox s y h = inbox-leads s (madeIn y) h
 prepare-lands p.Outbox s y h = outbox-leads s (madeIn y) h
-prepare-lands (p.GiveInbox v) s y h = part-leads s (faultOf v) (emptied (s .books)) h
 prepare-lands p.Look s y h = fw-leads (bookkeeps s (withToggle (s .books) (toggleIn y))) h
 
 -- AN OPENING begins with its course
 pub open-lands : (s : Session) (h : Here) → leads (openPlan s (h .undo)) h ≡ enable (s .info) (s .books) h
 unfolding enable prepareCourse
-open-lands s h = run-turned neither attributing (λ v. e.Attr v) (afterPrepare p.Attributes s) h
+open-lands s h = run-turned neither attributing (λ v. e.Attr v) (λ y d j. afterPrepare p.Attributes (bookkeeps s d) y j) (s .books) h

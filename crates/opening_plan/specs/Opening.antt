@@ -44,8 +44,8 @@ use Rattle.session.specs.declared.Gave.the-variants as v
 use Rattle.session.specs.declared.Stage.the-variants as g
 use Rattle.session.specs.declared.Failure.the-variants as f
 use Rattle.session.specs.declared.Closing.the-variants as c
-use Rattle.closing_plan.specs.Closing.{isDone, inHold, emptied, stopping, parted, restored, freed}
-use Rattle.opening_plan.specs.Values.{refusalOf, fwFailureOf, withToggle, withCatas, withOriginal, withInbox, withOutbox, nowStarted, layoutIn, rangeAt, opFor, enters, cutterFor, withUar, withRevision, withCap, withFunc, withPort}
+use Rattle.closing_plan.specs.Closing.{isDone, stopping, parted, restored, giving}
+use Rattle.opening_plan.specs.Values.{refusalOf, fwFailureOf, withToggle, withCatas, withOriginal, nowStarted, layoutIn, rangeAt, opFor, placeFor, enters, cutIn, withUar, withRevision, withCap, withFunc, withPort}
 
 -- FAILURES. The opening fails: closing runs
 abbrev pub fails : Refusal → Info → Books → Here → Course Rest
@@ -65,7 +65,7 @@ onValue (refused i vs) k n b h = fails (refusalOf i vs) n b h
 
 -- the outbox is zeroed before a command that names it
 abbrev pub asking : (op inMod : ℕ) → (CmdResult → Books → Here → Course Rest) → Books → Here → Course Rest
-asking op i k b h = sends b (withOutOf (b .held) op i) k (zeroed outbox h)
+asking op i k b h = sends b (withOutOf b op i) k (zeroed outbox h)
 
 -- the inbox as filled
 abbrev pub holds : List ℕ → Here → Here
@@ -85,7 +85,7 @@ queryFunc n b h =
 
 unfoldable pub initHca : Info → Books → Here → Course Rest
 initHca n b h =
-    sends b (withInOf (b .held) 0x007 0) (λ r d j. onGood r (λ e i. queryFunc n (nowStarted e) i) n d j)
+    sends b (withInOf b 0x007 0) (λ r d j. onGood r (λ e i. queryFunc n (nowStarted e) i) n d j)
     (holds (filledBy (h .inbox) (fieldsOf (initOf (n .cap) (layoutIn n .rows)))) h)
 
 -- "A mailbox carries at most 256 blocks": mailbox after mailbox, while something of the area is left; `more` bytes at most
@@ -93,18 +93,18 @@ unfoldable pub mapping : Area → (next : Books → Here → Course Rest) → (m
 mapping a next zero c n b h = next b h
 mapping a next (suc k) c n b h =
     pick (eqb (c .left) 0) (next b h)
-    (sends b (withInOf (b .held) (opFor a) (length (firstBlocks 63 256 c) % 2 ^ 32)) (λ r d j. onGood r (λ e i. mapping a next k (behind 63 256 c) n e i) n d j)
+    (sends b (withInOf b (opFor a) (length (firstBlocks 63 256 c) % 2 ^ 32)) (λ r d j. onGood r (λ e i. mapping a next k (behind 63 256 c) n e i) n d j)
     (holds (filledAt 63 256 c (h .inbox)) h))
 
--- a buffer for an area, which is in the books before it is mapped
+-- a buffer for an area, which is in its slot from its allocation on
 abbrev pub onMade : Made → (Buffer → Course Rest) → (Fault → Course Rest) → Course Rest
 onMade (m.Ready y) k z = k y
 onMade (m.Refused e) k z = z e
 
 unfoldable pub areaFor : Area → (bytes : ℕ) → (next : Books → Here → Course Rest) → Info → Books → Here → Course Rest
 areaFor a bytes next n b h =
-    task (making bytes) (λ y j.
-    onMade y (λ x. mapping a next (cutterFor n a x .left) (cutterFor n a x) n (enters n a x b) j) (λ e. fails (faultOf e) n b j)) h
+    run (placeFor n a) (making bytes) (λ y d j.
+    onMade y (λ x. mapping a next (cutIn n a d .left) (cutIn n a d) n (enters a d) j) (λ e. fails (faultOf e) n d j)) b h
 
 -- the ranges from i on, so many
 unfoldable pub mapIcm : (more i : ℕ) → Info → Books → Here → Course Rest
@@ -135,7 +135,7 @@ queryDevCap n b h =
 -- "(a status is passed over)"
 unfoldable pub modStat : Info → Books → Here → Course Rest
 modStat n b h =
-    sends b (withInOf (b .held) 0x034 0) (λ r d j. pick (needsReset r) (failsBy r n d j) (queryDevCap n d j))
+    sends b (withInOf b 0x034 0) (λ r d j. pick (needsReset r) (failsBy r n d j) (queryDevCap n d j))
     (holds (filledBy (h .inbox) modStatCfg) h)
 
 unfoldable pub runFw : Info → Books → Here → Course Rest
@@ -154,18 +154,18 @@ queryFw n b h =
 
 -- BEFORE BRING-UP, from its end
 unfoldable pub look : Info → Books → Here → Course Rest
-look n b h = task looking (λ t j. queryFw n (withToggle b t) j) h
+look n b h = task looking (λ t d j. queryFw n (withToggle d t) j) b h
 
 -- "where a mailbox buffer fails, nothing is torn down, the other mailbox is freed and that result is clean"
 unfoldable pub giveInbox : Fault → Info → Books → Here → Course Rest
-giveInbox e n b h = freed n (f.By (faultOf e)) (inHold (b .held .inbox)) (λ j. parted n (f.By (faultOf e)) c.Clean (emptied b) j) h
+giveInbox e n b h = giving n (f.By (faultOf e)) c.Clean b h
 
 unfoldable pub makeOutbox : Info → Books → Here → Course Rest
-makeOutbox n b h = run outbox (making 4096) (λ y j. onMade y (λ x. look n (withOutbox b x) j) (λ e. giveInbox e n b j)) h
+makeOutbox n b h = run outbox (making 4096) (λ y d j. onMade y (λ x. look n d j) (λ e. giveInbox e n d j)) b h
 
 unfoldable pub makeInbox : Info → Books → Here → Course Rest
 makeInbox n b h =
-    run inbox (making 4096) (λ y j. onMade y (λ x. makeOutbox n (withInbox b x) j) (λ e. parted n (f.By (faultOf e)) c.Clean b j)) h
+    run inbox (making 4096) (λ y d j. onMade y (λ x. makeOutbox n d j) (λ e. parted n (f.By (faultOf e)) c.Clean d j)) b h
 
 abbrev pub onFound : Found → Info → Books → Here → Course Rest
 onFound (u.Bar p) n b h = makeInbox (withUar n p) b h
@@ -174,10 +174,10 @@ onFound u.Refused n b h = parted n (f.By x.Bar) c.Clean b h
 onFound u.BadList n b h = parted n (f.By x.List) c.Clean b h
 
 unfoldable pub findUar : Info → Books → Here → Course Rest
-findUar n b h = task finding (λ y j. onFound y n b j) h
+findUar n b h = task finding (λ y d j. onFound y n d j) b h
 
 unfoldable pub firstReset : Info → Books → Here → Course Rest
-firstReset n b h = task reset (λ e j. pick (isGood e) (findUar n b j) (parted n (f.By x.Reset) c.Clean b j)) h
+firstReset n b h = task reset (λ e d j. pick (isGood e) (findUar n d j) (parted n (f.By x.Reset) c.Clean d j)) b h
 
 -- "At 1 to 4 .. nothing is torn down": at 2 the attributes are restored, at 1 nothing more is asked
 abbrev pub onClaimed : Claimed → Info → Books → Here → Course Rest
@@ -185,14 +185,14 @@ onClaimed l.Good n b h = firstReset n b h
 onClaimed l.Refused n b h = restored n (f.By x.Owner) c.Clean b h
 
 unfoldable pub claim : Info → Books → Here → Course Rest
-claim n b h = task claiming (λ y j. onClaimed y n b j) h
+claim n b h = task claiming (λ y d j. onClaimed y n d j) b h
 
 abbrev pub onEnabled : Attributes → Info → Books → Here → Course Rest
 onEnabled (t.Enabled v) n b h = claim n (withOriginal b v) h
 onEnabled t.Refused n b h = ret (left h) (atRest g.Ended b n (f.By x.Attributes) c.Clean)
 
 unfoldable pub enable : Info → Books → Here → Course Rest
-enable n b h = task attributing (λ y j. onEnabled y n b j) h
+enable n b h = task attributing (λ y d j. onEnabled y n d j) b h
 
 -- THE OPENING of a fresh session
 abbrev pub opening : Here → Course Rest

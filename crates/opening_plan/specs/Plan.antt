@@ -22,7 +22,6 @@ use Rattle.command.specs.declared.CmdResult.{CmdResult}
 use Rattle.reset.specs.Reset.{isGood}
 use Rattle.reset.specs.declared.ResetEnd.{ResetEnd}
 use Rattle.buffer.specs.Buffer.{byOutcome}
-use Rattle.buffer.specs.Steps.{startFree}
 use Rattle.buffer.specs.declared.Fault.{Fault}
 use Rattle.buffer.specs.declared.Made.{Made}
 use Rattle.buffer.specs.declared.Made.the-variants as m
@@ -44,7 +43,7 @@ use Rattle.work.specs.declared.End.{End}
 use Rattle.work.specs.declared.End.the-variants as e
 use Rattle.session.specs.Failures.{brokenBy, failureOf, faultOf, immediateOf, madeIn, needsReset}
 use Rattle.session.specs.Session.{session, starts, bookkeeps, informs, sendsOf, tookOf, planned, immOf, withInOf, withOutOf}
-use Rattle.session.specs.Course.{Course, Here, left, Box, neither, inbox, outbox, run, Rest}
+use Rattle.session.specs.Course.{Course, Here, left, Place, neither, inbox, outbox, run, Rest}
 use Rattle.session.specs.declared.Top.{Top}
 use Rattle.session.specs.declared.Books.{Books}
 use Rattle.session.specs.declared.Info.{Info}
@@ -63,9 +62,9 @@ use Rattle.session.specs.declared.Fill.{Fill}
 use Rattle.session.specs.declared.Fill.the-variants as w
 use Rattle.session.specs.declared.Session.{Session}
 use Rattle.session.specs.declared.Planned.{Planned}
-use Rattle.closing_plan.specs.Closing.{isDone, emptied, parted}
-use Rattle.closing_plan.specs.Plan.{cmdIn, resetIn, resetsOf, restorePlan, releasePlan, stopPlan, tookBooks, onHold}
-use Rattle.opening_plan.specs.Values.{refusalOf, fwFailureOf, withToggle, withCatas, withOriginal, withInbox, withOutbox, nowStarted, rangeAt, opFor, enters, cutterFor, withUar, withRevision, withCap, withFunc, withPort}
+use Rattle.closing_plan.specs.Closing.{isDone, parted}
+use Rattle.closing_plan.specs.Plan.{cmdIn, resetIn, resetsOf, restorePlan, releasePlan, stopPlan, freesPlan, tookBooks}
+use Rattle.opening_plan.specs.Values.{refusalOf, fwFailureOf, withToggle, withCatas, withOriginal, nowStarted, rangeAt, opFor, placeFor, enters, cutIn, withUar, withRevision, withCap, withFunc, withPort}
 use Rattle.opening_plan.specs.Opening.{fails, failsBy, onGood, onValue, opened, queryAdapter, queryFunc, mapping, onMade, mapIcm, areaFor, queryPorts, portsOf, queryDevCap, modStat, runFw, fwReply, queryFw, look, makeOutbox, giveInbox, onFound, findUar, onClaimed, onEnabled}
 
 -- HOW A TASK HAS ENDED; a task of the plan ends in its own kind, any other counts as failed
@@ -134,10 +133,10 @@ abbrev pub openedPlan : Session → Top → Planned
 openedPlan s top = planned (session (g.Open v.Nothing) (working t.Rest (s .work .reset) (s .work .find)) (s .books) (s .info) f.Nothing c.Clean) w.Nothing (top .count)
 
 abbrev pub askPlan : Session → Boot → (op inMod : ℕ) → Top → Planned
-askPlan s st op i top = planned (sendsOf s (g.Boot st) (withOutOf (s .books .held) op i)) w.Outbox (top .count)
+askPlan s st op i top = planned (sendsOf s (g.Boot st) (withOutOf (s .books) op i)) w.Outbox (top .count)
 
 abbrev pub givePlan : Session → Boot → (op : ℕ) → Fill → Top → Planned
-givePlan s st op fill top = planned (sendsOf s (g.Boot st) (withInOf (s .books .held) op 0)) fill (top .count)
+givePlan s st op fill top = planned (sendsOf s (g.Boot st) (withInOf (s .books) op 0)) fill (top .count)
 
 abbrev pub immPlan : Session → Boot → (op inParam : ℕ) → Top → Planned
 immPlan s st op y top = planned (sendsOf s (g.Boot st) (immOf op 0 0 y)) w.Nothing (top .count)
@@ -172,7 +171,7 @@ unfoldable pub mapPlan : Session → Area → Cutter → Top → Planned
 mapPlan s a y top = pick (eqb (y .left) 0) (mappedPlan s a top) (planned (starts s (g.Boot (k.Map a y)) t.Rest) (w.List y) (top .count))
 
 abbrev pub areaPlan : Session → Area → Made → Top → Planned
-areaPlan s a (m.Ready y) top = mapPlan (bookkeeps s (enters (s .info) a y (s .books))) a (cutterFor (s .info) a y) top
+areaPlan s a (m.Ready y) top = mapPlan (bookkeeps s (enters a (s .books))) a (cutIn (s .info) a (s .books)) top
 areaPlan s a (m.Refused y) top = failPlan s (faultOf y) top
 
 unfoldable pub layoutPlan : Session → Outcome Layout → Top → Planned
@@ -273,21 +272,16 @@ barPlan s u.Refused top = partPlan s x.Bar (s .books) top
 barPlan s u.BadList top = partPlan s x.List (s .books) top
 
 abbrev pub inboxPlan : Session → Made → Top → Planned
-inboxPlan s (m.Ready y) top = boxPlan (bookkeeps s (withInbox (s .books) y)) p.Outbox top
+inboxPlan s (m.Ready y) top = boxPlan s p.Outbox top
 inboxPlan s (m.Refused y) top = partPlan s (faultOf y) (s .books) top
 
 -- the outbox was not to be had: the inbox is freed, and the card given up
 abbrev pub givesInbox : Session → Fault → Top → Planned
-givesInbox s y top =
-    onHold (s .books .held .inbox) (λ b. planned (starts s (g.Prepare (p.GiveInbox y)) (t.Free (startFree b))) w.Nothing (top .count))
-    (partPlan s (faultOf y) (emptied (s .books)) top)
+givesInbox s y top = freesPlan 82 0 (givesUp s (faultOf y) (s .books)) (top .count)
 
 abbrev pub outboxPlan : Session → Made → Top → Planned
-outboxPlan s (m.Ready y) top = planned (starts (bookkeeps s (withOutbox (s .books) y)) (g.Prepare p.Look) t.Look) w.Nothing (top .count)
+outboxPlan s (m.Ready y) top = planned (starts s (g.Prepare p.Look) t.Look) w.Nothing (top .count)
 outboxPlan s (m.Refused y) top = givesInbox s y top
-
-abbrev pub inboxGiven : Session → Fault → Top → Planned
-inboxGiven s y top = partPlan s (faultOf y) (emptied (s .books)) top
 
 abbrev pub lookedPlan : Session → Bool → Top → Planned
 lookedPlan s y top = askPlan (bookkeeps s (withToggle (s .books) y)) k.QueryFw 0x004 0 top
@@ -299,7 +293,6 @@ preparePlanAt s y top p.Reset = resetPlan s (resetIn y) top
 preparePlanAt s y top p.Bar = barPlan s (barIn y) top
 preparePlanAt s y top p.Inbox = inboxPlan s (madeIn y) top
 preparePlanAt s y top p.Outbox = outboxPlan s (madeIn y) top
-preparePlanAt s y top (p.GiveInbox z) = inboxGiven s z top
 preparePlanAt s y top p.Look = lookedPlan s (toggleIn y) top
 
 unfoldable pub preparePlan : Session → Prepare → End → Top → Planned
@@ -313,7 +306,7 @@ openPlan s top = planned (starts s (g.Prepare p.Attributes) (t.Attr ta.Get)) w.N
 abbrev pub listsBoot : Session → Listed → Boot → Session
 listsBoot s y k.QueryFw = s
 listsBoot s y (k.Make z) = s
-listsBoot s y (k.Map a z) = sendsOf s (g.Boot (k.Map a (y .rest))) (withInOf (s .books .held) (opFor a) (y .entries % 2 ^ 32))
+listsBoot s y (k.Map a z) = sendsOf s (g.Boot (k.Map a (y .rest))) (withInOf (s .books) (opFor a) (y .entries % 2 ^ 32))
 listsBoot s y k.RunFw = s
 listsBoot s y k.ModStat = s
 listsBoot s y k.DevCap = s
@@ -347,7 +340,7 @@ afterBoot k.QueryFw s y h =
     (fails (fwFailureOf (cmdIn y .result)) (s .info) (brokenBy (cmdIn y .result) (tookBooks s y)) h)
 afterBoot (k.Make a) s y h =
     onMade (madeIn y)
-    (λ z. mapping a (nextOf a (s .info)) (cutterFor (s .info) a z .left) (cutterFor (s .info) a z) (s .info) (enters (s .info) a z (s .books)) h)
+    (λ z. mapping a (nextOf a (s .info)) (cutIn (s .info) a (s .books) .left) (cutIn (s .info) a (s .books)) (s .info) (enters a (s .books)) h)
     (λ z. fails (faultOf z) (s .info) (s .books) h)
 afterBoot (k.Map a z) s y h =
     onGood (cmdIn y .result) (λ b j. mapping a (nextOf a (s .info)) (z .left) z (s .info) b j) (s .info) (tookBooks s y) h
@@ -369,8 +362,22 @@ afterBoot k.Func s y h =
     onGood (cmdIn y .result) (λ b j. onValue (queryFuncOf (j .outbox)) (λ z. queryAdapter (withFunc (s .info) z) b j) (s .info) b j) (s .info) (tookBooks s y) h
 afterBoot k.Adapter s y h = opened (s .info) (tookBooks s y) h
 
+-- the slot that a stage's buffer is for
+abbrev pub placeBoot : Boot → Info → Place
+placeBoot k.QueryFw n = neither
+placeBoot (k.Make a) n = placeFor n a
+placeBoot (k.Map a z) n = neither
+placeBoot k.RunFw n = neither
+placeBoot k.ModStat n = neither
+placeBoot k.DevCap n = neither
+placeBoot (k.Port i) n = neither
+placeBoot k.IcmSize n = neither
+placeBoot k.InitHca n = neither
+placeBoot k.Func n = neither
+placeBoot k.Adapter n = neither
+
 unfoldable pub bootCourse : Boot → Session → Here → Course Rest
-bootCourse st s h = run neither (workScript (h .inbox) (s .work)) (afterBoot st s) h
+bootCourse st s h = run (placeBoot st (s .info)) (workScript (h .inbox) (s .work)) (λ y d j. afterBoot st (bookkeeps s d) y j) (s .books) h
 
 abbrev pub afterPrepare : Prepare → Session → End → Here → Course Rest
 afterPrepare p.Attributes s y h = onEnabled (attrIn y) (s .info) (s .books) h
@@ -378,21 +385,19 @@ afterPrepare p.Claim s y h = onClaimed (claimIn y) (s .info) (s .books) h
 afterPrepare p.Reset s y h = pick (isGood (resetIn y)) (findUar (s .info) (s .books) h) (parted (s .info) (f.By x.Reset) c.Clean (s .books) h)
 afterPrepare p.Bar s y h = onFound (barIn y) (s .info) (s .books) h
 afterPrepare p.Inbox s y h =
-    onMade (madeIn y) (λ z. makeOutbox (s .info) (withInbox (s .books) z) h) (λ z. parted (s .info) (f.By (faultOf z)) c.Clean (s .books) h)
-afterPrepare p.Outbox s y h = onMade (madeIn y) (λ z. look (s .info) (withOutbox (s .books) z) h) (λ z. giveInbox z (s .info) (s .books) h)
-afterPrepare (p.GiveInbox z) s y h = parted (s .info) (f.By (faultOf z)) c.Clean (emptied (s .books)) h
+    onMade (madeIn y) (λ z. makeOutbox (s .info) (s .books) h) (λ z. parted (s .info) (f.By (faultOf z)) c.Clean (s .books) h)
+afterPrepare p.Outbox s y h = onMade (madeIn y) (λ z. look (s .info) (s .books) h) (λ z. giveInbox z (s .info) (s .books) h)
 afterPrepare p.Look s y h = queryFw (s .info) (withToggle (s .books) (toggleIn y)) h
 
 -- the mailbox that a stage's buffer is for
-abbrev pub boxOf : Prepare → Box
+abbrev pub boxOf : Prepare → Place
 boxOf p.Attributes = neither
 boxOf p.Claim = neither
 boxOf p.Reset = neither
 boxOf p.Bar = neither
 boxOf p.Inbox = inbox
 boxOf p.Outbox = outbox
-boxOf (p.GiveInbox z) = neither
 boxOf p.Look = neither
 
 unfoldable pub prepareCourse : Prepare → Session → Here → Course Rest
-prepareCourse st s h = run (boxOf st) (workScript (h .inbox) (s .work)) (afterPrepare st s) h
+prepareCourse st s h = run (boxOf st) (workScript (h .inbox) (s .work)) (λ y d j. afterPrepare st (bookkeeps s d) y j) (s .books) h

@@ -3,7 +3,7 @@ use Prim.Native.Nat.{ℕ, _+_}
 use mathlib.Core.Bool.{Bool, true}
 use mathlib.Core.List.{List, [], _∷_}
 use lib.Dec.{eqb, ltb}
-use lib.ListN.{getD, set}
+use lib.ListN.{getD}
 use Rattle.fields.specs.Outcome.{valueOr, pick}
 use Rattle.bars.specs.declared.Pick.{Pick}
 use Rattle.dma.specs.declared.Buffer.{Buffer}
@@ -23,9 +23,8 @@ use Rattle.layout.specs.declared.Range.{Range}
 use Rattle.command.specs.declared.CmdResult.{CmdResult}
 use Rattle.command.specs.declared.CmdResult.the-variants as r
 use Rattle.command.specs.declared.Catas.the-variants as k
-use Rattle.session.specs.Session.{books, wired, holding, listing, bytesIn}
-use Rattle.session.specs.declared.Hold.the-variants as o
-use Rattle.session.specs.declared.Icm.{Icm}
+use Rattle.session.specs.Session.{books, wired, listing, slotAt, bufferOf, bytesIn, FA, AUX}
+use Rattle.session.specs.Course.{Place, slot}
 use Rattle.session.specs.declared.Lists.{Lists}
 use Rattle.session.specs.declared.Books.{Books}
 use Rattle.session.specs.declared.Info.{Info}
@@ -68,22 +67,15 @@ withCatas b i =
     wired b (record { toggle = b .wire .toggle; running = b .wire .running; broken = b .wire .broken; silent = b .wire .silent; catas = k.Known (i .«catas_bar») (i .«catas_offset») })
 
 abbrev pub withOriginal : Books → ℕ → Books
-withOriginal b v = books (b .wire) (b .held) (b .lists) (b .started) v
-
-abbrev pub withInbox : Books → Buffer → Books
-withInbox b y = holding b (record { inbox = o.Held y; outbox = b .held .outbox; fa = b .held .fa; aux = b .held .aux })
-
-abbrev pub withOutbox : Books → Buffer → Books
-withOutbox b y = holding b (record { inbox = b .held .inbox; outbox = o.Held y; fa = b .held .fa; aux = b .held .aux })
+withOriginal b v = books (b .wire) (b .lists) (b .started) v
 
 -- INIT_HCA was seen good
 abbrev pub nowStarted : Books → Books
-nowStarted b = books (b .wire) (b .held) (b .lists) true (b .original)
+nowStarted b = books (b .wire) (b .lists) true (b .original)
 
 -- one range more; the layout has fourteen, and there is room for no more
-abbrev pub appended : Lists → Icm → Lists
-appended l e =
-    pick (ltb (l .ranges) 14) (record { icm = set (l .icm) (l .ranges) e; ranges = l .ranges + 1; lent = l .lent; lends = l .lends }) l
+abbrev pub appended : Lists → Lists
+appended l = pick (ltb (l .ranges) 14) (record { slots = l .slots; ranges = l .ranges + 1; lends = l .lends }) l
 
 -- THE LAYOUT of the card's capabilities, and its ranges
 abbrev pub layoutIn : Info → Layout
@@ -98,7 +90,7 @@ rangeIn rs i = getD rs i noRange
 abbrev pub rangeAt : Info → ℕ → Range
 rangeAt n i = rangeIn (layoutIn n .ranges) i
 
--- an area's card address, its command, and the buffer in the books
+-- an area's card address, and its command
 abbrev pub virtFor : Info → Area → Virt
 virtFor n a.Fa = v.Absent
 virtFor n a.Aux = v.Absent
@@ -109,22 +101,32 @@ opFor a.Fa = 0xfff
 opFor a.Aux = 0xffc
 opFor (a.Range i) = 0xffa
 
-abbrev pub withFa : Books → Buffer → Books
-withFa b y = holding b (record { inbox = b .held .inbox; outbox = b .held .outbox; fa = o.Held y; aux = b .held .aux })
+-- its slot
+abbrev pub slotFor : Area → ℕ
+slotFor a.Fa = FA
+slotFor a.Aux = AUX
+slotFor (a.Range i) = 64 + i
 
-abbrev pub withAux : Books → Buffer → Books
-withAux b y = holding b (record { inbox = b .held .inbox; outbox = b .held .outbox; fa = b .held .fa; aux = o.Held y })
+abbrev pub cardFor : Info → Area → ℕ
+cardFor n a.Fa = 0
+cardFor n a.Aux = 0
+cardFor n (a.Range i) = rangeAt n i .virt
 
-abbrev pub withRange : Books → (virt : ℕ) → Buffer → Books
-withRange b virt y = listing b (appended (b .lists) (record { virt = virt; handle = y .handle; dev = y .dev; pages = y .pages }))
+abbrev pub placeFor : Info → Area → Place
+placeFor n a = slot (slotFor a) (cardFor n a)
 
-abbrev pub enters : Info → Area → Buffer → Books → Books
-enters n a.Fa y b = withFa b y
-enters n a.Aux y b = withAux b y
-enters n (a.Range i) y b = withRange b (rangeAt n i .virt) y
+-- its buffer is made, and in its slot: a range counts
+abbrev pub enters : Area → Books → Books
+enters a.Fa b = b
+enters a.Aux b = b
+enters (a.Range i) b = listing b (appended (b .lists))
 
 abbrev pub cutterFor : Info → Area → Buffer → Cutter
 cutterFor n a y = record { virt = virtFor n a; phys = y .dev; left = bytesIn y }
+
+-- what is to be cut of an area whose buffer is in its slot
+abbrev pub cutIn : Info → Area → Books → Cutter
+cutIn n a b = cutterFor n a (bufferOf (slotAt (b .lists .slots) (slotFor a)))
 
 -- WHAT THE CARD SAYS
 abbrev pub info : Pick → DevCap → FuncInfo → PortInfo → PortInfo → Bool → Info

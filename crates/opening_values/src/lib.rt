@@ -1,7 +1,6 @@
-// What the steps of an opening share: how a task has ended, what the books and the notes on the card hold then, commands of each form, and how an opening fails.
+// What the steps of an opening share: how a task has ended, what the head and the notes on the card hold then, commands of each form, and how an opening fails.
 use command::Catas;
 use command::CmdResult;
-use dma::Buffer;
 use dma::Cutter;
 use dma::Listed;
 use dma::Virt;
@@ -12,19 +11,13 @@ use pci::Refusal;
 use reply::DevCap;
 use reply::FuncInfo;
 use reply::FwInfo;
-use reply::PortInfo;
 use session::Area;
-use session::Books;
 use session::Boot;
+use session::Core;
 use session::Failure;
 use session::Fill;
-use session::Held;
-use session::Hold;
-use session::Icm;
-use session::Info;
-use session::Lists;
-use session::Planned;
-use session::Session;
+use session::Plan;
+use session::Slot;
 use session::Stage;
 use session::Top;
 use session::Wire;
@@ -33,8 +26,14 @@ use tasks::Claimed;
 use uar::Found;
 use work::End;
 ghost use mathlib.Core.Path.{_≡_};
+ghost use Rattle.fields.specs.Outcome.{valueOr};
+ghost use Rattle.layout.specs.Layout.{noLayout};
+ghost use Rattle.layout.specs.Counts.{profileOf};
+ghost use Rattle.session.specs.Core.{full, planIn, FullIs, PlanIs, leads, originalAs, startedAs};
+ghost use Rattle.session.specs.Session.{slotAt, icmAt, listing, bookkeeps, informs};
+ghost use Rattle.behind.specs.Behind.{behindIn};
+ghost use Rattle.opening_values.specs.Heads.{CapIs, VirtIs, CutIs, WithSlots};
 ghost use Rattle.opening_plan.specs.Plan as p;
-ghost use Rattle.session.specs.Session.{planned};
 ghost use Rattle.opening_plan.specs.Values as v;
 
 // How a task has ended; a plan's own tasks end in their own kind, and any other counts as failed.
@@ -124,76 +123,48 @@ pub fn fw_failure_of(r: CmdResult) -> Refusal
     }
 }
 
-// The books with the first toggle, with the catastrophic buffer, with the attributes that were there first.
-pub fn with_toggle(b: Books, toggle: bool) -> Books
-    ensures { λ r. ⌜ r ≡ v.withToggle b toggle ⌝ }
+// The head with the first toggle, with the catastrophic buffer, with the attributes that were there first.
+pub fn with_toggle(s: Core, toggle: bool) -> Core
+    ensures { λ r. ⌜ FullIs r (λ b. bookkeeps (full s b) (v.withToggle (full s b .books) toggle)) ⌝ }
 {
-    let was = b.wire;
+    let was = s.wire;
     let wire = Wire { toggle, ..was };
-    Books { wire, ..b }
+    Core { wire, ..s }
 }
 
-pub fn with_catas(b: Books, i: FwInfo) -> Books
-    ensures { λ r. ⌜ r ≡ v.withCatas b i ⌝ }
+pub fn with_catas(s: Core, i: FwInfo) -> Core
+    ensures { λ r. ⌜ FullIs r (λ b. bookkeeps (full s b) (v.withCatas (full s b .books) i)) ⌝ }
 {
-    let was = b.wire;
+    let was = s.wire;
     let wire = Wire {
         catas: Catas::Known(i.catas_bar, i.catas_offset),
         ..was
     };
-    Books { wire, ..b }
+    Core { wire, ..s }
 }
 
-pub fn with_original(b: Books, original: u64) -> Books
-    ensures { λ r. ⌜ r ≡ v.withOriginal b original ⌝ }
+pub fn with_original(s: Core, original: u64) -> Core
+    ensures { λ r. ⌜ r ≡ originalAs s original ⌝ }
 {
-    Books { original, ..b }
+    Core { original, ..s }
 }
 
-// The books with a mailbox, or with INIT_HCA seen good.
-pub fn with_inbox(b: Books, x: Buffer) -> Books
-    ensures { λ r. ⌜ r ≡ v.withInbox b x ⌝ }
+// INIT_HCA was seen good.
+pub fn now_started(s: Core) -> Core
+    ensures { λ r. ⌜ r ≡ startedAs s ⌝ }
 {
-    let was = b.held;
-    let held = Held {
-        inbox: Hold::Held(x),
-        ..was
-    };
-    Books { held, ..b }
-}
-
-pub fn with_outbox(b: Books, x: Buffer) -> Books
-    ensures { λ r. ⌜ r ≡ v.withOutbox b x ⌝ }
-{
-    let was = b.held;
-    let held = Held {
-        outbox: Hold::Held(x),
-        ..was
-    };
-    Books { held, ..b }
-}
-
-pub fn now_started(b: Books) -> Books
-    ensures { λ r. ⌜ r ≡ v.nowStarted b ⌝ }
-{
-    Books { started: true, ..b }
+    Core { started: true, ..s }
 }
 
 // One range more.
-fn append(l: Lists, x: Icm) -> Lists
-    ensures { λ r. ⌜ r ≡ v.appended l x ⌝ }
+fn append(s: Core) -> Core
+    ensures { λ r. ⌜ FullIs r (λ b. bookkeeps (full s b) (listing (full s b .books) (v.appended (full s b .books .lists)))) ⌝ }
 {
-    let n = l.ranges;
-    if n < 14 {
-        let mut icm = l.icm;
-        icm[n] = x;
-        return Lists {
-            icm,
-            ranges: n + 1,
-            ..l
-        };
+    let n = s.ranges;
+    if n < Slot::RANGES {
+        return Core { ranges: n + 1, ..s };
     }
-    l
+    s
 }
 
 // Range i of the layout.
@@ -206,24 +177,23 @@ fn range_in(ranges: [Range; 14], i: usize) -> Range
     Range { virt: 0, bytes: 0 }
 }
 
-pub fn range_at(n: Info, i: usize) -> Range
-    ensures { λ r. ⌜ r ≡ v.rangeAt n i ⌝ }
+pub fn range_at(i: usize, m: &[u8]) -> Range
+    ensures { λ r. ⌜ r ≡ v.rangeIn (valueOr noLayout (profileOf (behindIn (now (m .entry)) .cap)) .ranges) i ⌝ }
 {
-    let cap = n.cap;
-    let laid = layout::profile(cap);
+    let laid = layout::profile(behind::cap_at(m));
     let layout = laid.layout;
     let ranges = layout.ranges;
     range_in(ranges, i)
 }
 
 // An area's card address, and its command.
-pub fn virt_for(n: Info, a: Area) -> Virt
-    ensures { λ r. ⌜ r ≡ v.virtFor n a ⌝ }
+fn virt_for(a: Area, m: &[u8]) -> Virt
+    ensures { λ r. ⌜ VirtIs r a (behindIn (now (m .entry))) ⌝ }
 {
     match a {
         Area::Fa => Virt::Absent,
         Area::Aux => Virt::Absent,
-        Area::Range(i) => Virt::At(range_at(n, i).virt),
+        Area::Range(i) => Virt::At(range_at(i, m).virt),
     }
 }
 
@@ -237,133 +207,103 @@ pub fn op_for(a: Area) -> u16
     }
 }
 
-fn with_fa(b: Books, x: Buffer) -> Books
-    ensures { λ r. ⌜ r ≡ v.withFa b x ⌝ }
+// The slot of range i; behind the last slot there is none.
+fn range_slot(i: usize, m: &[u8]) -> Slot
+    ensures { λ r. ⌜ r ≡ icmAt (behindIn (now (m .entry)) .slots) i ⌝ }
 {
-    let was = b.held;
-    let held = Held {
-        fa: Hold::Held(x),
-        ..was
-    };
-    Books { held, ..b }
+    if i < Slot::COUNT {
+        return behind::slot_at(m, Slot::LENT + i);
+    }
+    behind::slot_at(m, i)
 }
 
-fn with_aux(b: Books, x: Buffer) -> Books
-    ensures { λ r. ⌜ r ≡ v.withAux b x ⌝ }
-{
-    let was = b.held;
-    let held = Held {
-        aux: Hold::Held(x),
-        ..was
-    };
-    Books { held, ..b }
-}
-
-fn with_range(b: Books, virt: u64, x: Buffer) -> Books
-    ensures { λ r. ⌜ r ≡ v.withRange b virt x ⌝ }
-{
-    let was = b.lists;
-    let lists = append(
-        was,
-        Icm {
-            virt,
-            handle: x.handle,
-            dev: x.dev,
-            pages: x.pages,
-        },
-    );
-    Books { lists, ..b }
-}
-
-// A buffer enters the books before any command names it.
-pub fn enters(n: Info, a: Area, x: Buffer, b: Books) -> Books
-    ensures { λ r. ⌜ r ≡ v.enters n a x b ⌝ }
+// The slot of an area; an empty one where there is none.
+fn slot_of(a: Area, m: &[u8]) -> Slot
+    ensures { λ r. ⌜ r ≡ slotAt (behindIn (now (m .entry)) .slots) (v.slotFor a) ⌝ }
 {
     match a {
-        Area::Fa => with_fa(b, x),
-        Area::Aux => with_aux(b, x),
-        Area::Range(i) => with_range(b, range_at(n, i).virt, x),
+        Area::Fa => behind::slot_at(m, Slot::FA),
+        Area::Aux => behind::slot_at(m, Slot::AUX),
+        Area::Range(i) => range_slot(i, m),
     }
 }
 
-pub fn cutter_for(n: Info, a: Area, x: Buffer) -> Cutter
-    ensures { λ r. ⌜ r ≡ v.cutterFor n a x ⌝ }
+// The buffer of an area is made, and in its slot: a range counts.
+pub fn enters(s: Core, a: Area) -> Core
+    ensures { λ r. ⌜ FullIs r (λ b. bookkeeps (full s b) (v.enters a (full s b .books))) ⌝ }
 {
-    Cutter {
-        virt: virt_for(n, a),
-        phys: x.dev,
-        left: session::bytes(x),
+    match a {
+        Area::Fa => s,
+        Area::Aux => s,
+        Area::Range(_) => append(s),
     }
 }
 
-// What the card has said, noted.
-pub fn with_cap(n: Info, cap: DevCap) -> Info
-    ensures { λ r. ⌜ r ≡ v.withCap n cap ⌝ }
+// What is to be cut of an area whose buffer is in its slot.
+pub fn cut_in(a: Area, m: &[u8]) -> Cutter
+    ensures { λ r. ⌜ CutIs r a (behindIn (now (m .entry))) ⌝ }
+{
+    let buffer = session::buffer_of(slot_of(a, m));
+    Cutter {
+        virt: virt_for(a, m),
+        phys: buffer.dev,
+        left: session::bytes(buffer),
+    }
+}
+
+// What the card has said, noted in the head.
+pub fn with_cap(s: Core, cap: DevCap) -> Core
+    ensures { λ r. ⌜ CapIs r cap s ⌝ }
 {
     let func = FuncInfo {
         rsvd_eqs: cap.rsvd_eqs,
         max_eqs: cap.max_eqs,
         rsvd_uars: cap.rsvd_uars,
     };
-    Info { cap, func, ..n }
+    Core { func, ..s }
 }
 
-pub fn with_port(n: Info, i: u8, x: PortInfo) -> Info
-    ensures { λ r. ⌜ r ≡ v.withPort n i x ⌝ }
+pub fn with_revision(s: Core, rev: u16) -> Core
+    ensures { λ r. ⌜ FullIs r (λ b. informs (full s b) (v.withRevision (full s b .info) rev)) ⌝ }
 {
-    if i == 1 {
-        return Info { port1: x, ..n };
-    }
-    Info { port2: x, ..n }
-}
-
-pub fn with_revision(n: Info, rev: u16) -> Info
-    ensures { λ r. ⌜ r ≡ v.withRevision n rev ⌝ }
-{
-    Info {
+    Core {
         rev3: rev == 3,
-        ..n
+        ..s
     }
 }
 
-pub fn plan(session: Session, fill: Fill, undo: usize) -> Planned
-    ensures { λ r. ⌜ r ≡ planned session fill undo ⌝ }
+pub fn plan(core: Core, fill: Fill, undo: usize) -> Plan
+    ensures { λ r. ⌜ r ≡ leads core fill undo ⌝ }
 {
-    Planned {
-        session,
-        fill,
-        undo,
-    }
+    Plan { core, fill, undo }
 }
 
 // A command that names the outbox.
-pub fn ask(s: Session, stage: Boot, op: u16, in_mod: u32, top: Top) -> Planned
-    ensures { λ r. ⌜ r ≡ p.askPlan s stage op «in_mod» top ⌝ }
+pub fn ask(s: Core, stage: Boot, op: u16, in_mod: u32, top: Top, m: &[u8]) -> Plan
+    ensures { λ r. ⌜ planIn r (behindIn (now (m .entry))) ≡ p.askPlan (full s (behindIn (now (m .entry)))) stage op «in_mod» top ⌝ }
 {
-    let books = s.books;
-    let held = books.held;
+    let slot = behind::slot_at(m, Slot::OUTBOX);
     plan(
-        s.send(Stage::Boot(stage), session::with_out(held, op, in_mod)),
+        s.send(Stage::Boot(stage), session::with_out(slot.dev, op, in_mod)),
         Fill::Outbox,
         top.count,
     )
 }
 
 // A command that names the inbox, and one that names neither.
-pub fn give(s: Session, stage: Boot, op: u16, fill: Fill, top: Top) -> Planned
-    ensures { λ r. ⌜ r ≡ p.givePlan s stage op fill top ⌝ }
+pub fn give(s: Core, stage: Boot, op: u16, fill: Fill, top: Top, m: &[u8]) -> Plan
+    ensures { λ r. ⌜ planIn r (behindIn (now (m .entry))) ≡ p.givePlan (full s (behindIn (now (m .entry)))) stage op fill top ⌝ }
 {
-    let books = s.books;
-    let held = books.held;
+    let slot = behind::slot_at(m, Slot::INBOX);
     plan(
-        s.send(Stage::Boot(stage), session::with_in(held, op, 0)),
+        s.send(Stage::Boot(stage), session::with_in(slot.dev, op, 0)),
         fill,
         top.count,
     )
 }
 
-pub fn imm(s: Session, stage: Boot, op: u16, in_param: u64, top: Top) -> Planned
-    ensures { λ r. ⌜ r ≡ p.immPlan s stage op «in_param» top ⌝ }
+pub fn imm(s: Core, stage: Boot, op: u16, in_param: u64, top: Top) -> Plan
+    ensures { λ r. ⌜ PlanIs r (λ b. p.immPlan (full s b) stage op «in_param» top) ⌝ }
 {
     plan(
         s.send(Stage::Boot(stage), session::imm(op, 0, 0, in_param)),
@@ -373,37 +313,37 @@ pub fn imm(s: Session, stage: Boot, op: u16, in_param: u64, top: Top) -> Planned
 }
 
 // The opening fails: the session says why, and closing begins.
-pub fn fail(s: Session, why: Refusal, top: Top) -> Planned
-    ensures { λ r. ⌜ r ≡ p.failPlan s why top ⌝ }
+pub fn fail(s: Core, why: Refusal, top: Top, m: &[u8]) -> Plan
+    ensures { λ r. ⌜ planIn r (behindIn (now (m .entry))) ≡ p.failPlan (full s (behindIn (now (m .entry)))) why top ⌝ }
 {
     closing::stop(
-        Session {
+        Core {
             failure: Failure::By(why),
             ..s
         },
         top,
+        m,
     )
 }
 
 // A command failed, and with it the opening.
-pub fn fail_by(s: Session, r: CmdResult, top: Top) -> Planned
-    ensures { λ y. ⌜ y ≡ p.failByPlan s r top ⌝ }
+pub fn fail_by(s: Core, r: CmdResult, top: Top, m: &[u8]) -> Plan
+    ensures { λ y. ⌜ planIn y (behindIn (now (m .entry))) ≡ p.failByPlan (full s (behindIn (now (m .entry)))) r top ⌝ }
 {
-    fail(s.broken_by(r), session::failure_of(r), top)
+    fail(s.broken_by(r), session::failure_of(r), top, m)
 }
 
-fn list_at(s: Session, stage: Boot, y: Listed) -> Session
-    ensures { λ r. ⌜ r ≡ p.listsBoot s y stage ⌝ }
+fn list_at(s: Core, stage: Boot, y: Listed, m: &[u8]) -> Core
+    ensures { λ r. ⌜ WithSlots (behindIn (now (m .entry))) (λ b. full r b ≡ p.listsBoot (full s b) y stage) ⌝ }
 {
-    let books = s.books;
-    let held = books.held;
+    let slot = behind::slot_at(m, Slot::INBOX);
     let rest = y.rest;
     match stage {
         Boot::QueryFw => s,
         Boot::Make(_) => s,
         Boot::Map(a, _) => s.send(
             Stage::Boot(Boot::Map(a, rest)),
-            session::with_in(held, op_for(a), (y.entries % 0x1_0000_0000) as u32),
+            session::with_in(slot.dev, op_for(a), (y.entries % 0x1_0000_0000) as u32),
         ),
         Boot::RunFw => s,
         Boot::ModStat => s,
@@ -417,8 +357,8 @@ fn list_at(s: Session, stage: Boot, y: Listed) -> Session
 }
 
 // The command that posts a page list: its number of entries, and what is left of the area.
-pub fn lists(s: Session, y: Listed) -> Session
-    ensures { λ r. ⌜ r ≡ p.lists s y ⌝ }
+pub fn lists(s: Core, y: Listed, m: &[u8]) -> Core
+    ensures { λ r. ⌜ WithSlots (behindIn (now (m .entry))) (λ b. full r b ≡ p.lists (full s b) y) ⌝ }
 {
     let stage = s.stage;
     match stage {
@@ -426,7 +366,7 @@ pub fn lists(s: Session, y: Listed) -> Session
         Stage::Open(_) => s,
         Stage::Ended => s,
         Stage::Prepare(_) => s,
-        Stage::Boot(b) => list_at(s, b, y),
+        Stage::Boot(b) => list_at(s, b, y, m),
         Stage::Client(_) => s,
         Stage::Close(_) => s,
     }

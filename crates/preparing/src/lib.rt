@@ -1,43 +1,41 @@
 // Before bring-up: what follows when a task has ended, from the attributes to the first look at the command register. Each function begins the next task, or passes on to
 // the step behind it.
 use buffer::Fault;
-use buffer::Freeing;
 use buffer::Made;
 use buffer::MakePhase;
 use buffer::Making;
 use hcr::Op;
 use pci::Refusal;
 use reset::ResetEnd;
-use session::Books;
 use session::Boot;
 use session::Closing;
+use session::Core;
 use session::Failure;
-use session::Fill;
-use session::Hold;
-use session::Info;
-use session::Planned;
+use session::Plan;
 use session::Prepare;
-use session::Session;
 use session::Stage;
 use session::Top;
 use tasks::Attr;
 use tasks::Attributes;
 use tasks::Claim;
 use tasks::Claimed;
-use uar::FindBar;
 use uar::Found;
 use work::End;
 use work::Task;
-use work::Work;
 ghost use mathlib.Core.Path.{_≡_};
+ghost use Rattle.session.specs.declared.Failure.the-variants.{By};
+ghost use Rattle.session.specs.declared.Closing.the-variants.{Clean};
+ghost use Rattle.session.specs.declared.Fill.the-variants.{Nothing};
+ghost use Rattle.session.specs.Session.{planned};
+ghost use Rattle.session.specs.Core.{full, planIn, PlanIs, endsAs};
+ghost use Rattle.behind.specs.Behind.{behindIn};
 ghost use Rattle.opening_plan.specs.Plan as p;
 
 // Nothing is to be torn down: the session says why, and the result of closing is clean.
-fn gives_up(s: Session, why: Refusal, books: Books) -> Session
-    ensures { λ r. ⌜ r ≡ p.givesUp s why books ⌝ }
+fn gives_up(s: Core, why: Refusal) -> Core
+    ensures { λ r. ⌜ r ≡ endsAs s (By why) Clean ⌝ }
 {
-    Session {
-        books,
+    Core {
         failure: Failure::By(why),
         closing: Closing::Clean,
         ..s
@@ -45,17 +43,17 @@ fn gives_up(s: Session, why: Refusal, books: Books) -> Session
 }
 
 // The card is given up.
-fn part(s: Session, why: Refusal, books: Books, top: Top) -> Planned
-    ensures { λ r. ⌜ r ≡ p.partPlan s why books top ⌝ }
+fn part(s: Core, why: Refusal, top: Top) -> Plan
+    ensures { λ r. ⌜ PlanIs r (λ b. p.partPlan (full s b) why (full s b .books) top) ⌝ }
 {
-    giving::release(gives_up(s, why, books), top.count)
+    giving::release(gives_up(s, why), top.count)
 }
 
 // A mailbox's buffer.
-fn box_plan(s: Session, stage: Prepare, top: Top) -> Planned
-    ensures { λ r. ⌜ r ≡ p.boxPlan s stage top ⌝ }
+fn box_plan(s: Core, stage: Prepare, top: Top) -> Plan
+    ensures { λ r. ⌜ PlanIs r (λ b. p.boxPlan (full s b) stage top) ⌝ }
 {
-    opening_values::plan(
+    Plan::new(
         s.start(
             Stage::Prepare(stage),
             Task::Make(Making {
@@ -63,159 +61,108 @@ fn box_plan(s: Session, stage: Prepare, top: Top) -> Planned
                 phase: MakePhase::Allocate,
             }),
         ),
-        Fill::Nothing,
         top.count,
     )
 }
 
-fn enabled(s: Session, y: Attributes, top: Top) -> Planned
-    ensures { λ r. ⌜ r ≡ p.attrPlan s y top ⌝ }
+fn enabled(s: Core, y: Attributes, top: Top) -> Plan
+    ensures { λ r. ⌜ PlanIs r (λ b. p.attrPlan (full s b) y top) ⌝ }
 {
-    let books = s.books;
     match y {
         Attributes::Enabled(before) => {
-            let t = s.with_books(opening_values::with_original(books, before));
-            opening_values::plan(
+            let t = opening_values::with_original(s, before);
+            Plan::new(
                 t.start(Stage::Prepare(Prepare::Claim), Task::Claim(Claim::Command)),
-                Fill::Nothing,
                 top.count,
             )
         }
-        Attributes::Refused => {
-            let t = gives_up(s, Refusal::Attributes, books);
-            opening_values::plan(t.start(Stage::Ended, Task::Rest), Fill::Nothing, top.count)
-        }
+        Attributes::Refused => Plan::new(giving::ends(gives_up(s, Refusal::Attributes)), top.count),
     }
 }
 
-fn claimed(s: Session, y: Claimed, top: Top) -> Planned
-    ensures { λ r. ⌜ r ≡ p.claimPlan s y top ⌝ }
+fn claimed(s: Core, y: Claimed, top: Top) -> Plan
+    ensures { λ r. ⌜ PlanIs r (λ b. p.claimPlan (full s b) y top) ⌝ }
 {
-    let books = s.books;
     match y {
-        Claimed::Good => opening_values::plan(
-            giving::resets(s, Stage::Prepare(Prepare::Reset)),
-            Fill::Nothing,
+        Claimed::Good => Plan::new(
+            s.start(Stage::Prepare(Prepare::Reset), Task::Reset),
             top.count,
         ),
-        Claimed::Refused => giving::restore(gives_up(s, Refusal::Owner, books), top.count),
+        Claimed::Refused => giving::restore(gives_up(s, Refusal::Owner), top.count),
     }
 }
 
 // The search for the UAR BAR begins.
-fn finds(s: Session) -> Session
-    ensures { λ r. ⌜ r ≡ p.findsOf s ⌝ }
+fn find(s: Core, top: Top) -> Plan
+    ensures { λ r. ⌜ PlanIs r (λ b. planned (p.findsOf (full s b)) Nothing (top .count)) ⌝ }
 {
-    let before = s.work;
-    let work = Work {
-        task: Task::Bar,
-        find: FindBar::start(),
-        ..before
-    };
-    Session {
-        stage: Stage::Prepare(Prepare::Bar),
-        work,
-        ..s
-    }
+    Plan::new(s.start(Stage::Prepare(Prepare::Bar), Task::Bar), top.count)
 }
 
-fn was_reset(s: Session, y: ResetEnd, top: Top) -> Planned
-    ensures { λ r. ⌜ r ≡ p.resetPlan s y top ⌝ }
+fn was_reset(s: Core, y: ResetEnd, top: Top) -> Plan
+    ensures { λ r. ⌜ PlanIs r (λ b. p.resetPlan (full s b) y top) ⌝ }
 {
     if y.is_good() {
-        return opening_values::plan(finds(s), Fill::Nothing, top.count);
+        return find(s, top);
     }
-    let books = s.books;
-    part(s, Refusal::Reset, books, top)
+    part(s, Refusal::Reset, top)
 }
 
-fn found(s: Session, y: Found, top: Top) -> Planned
-    ensures { λ r. ⌜ r ≡ p.barPlan s y top ⌝ }
+fn found(s: Core, y: Found, top: Top) -> Plan
+    ensures { λ r. ⌜ PlanIs r (λ b. p.barPlan (full s b) y top) ⌝ }
 {
-    let info = s.info;
-    let books = s.books;
     match y {
-        Found::Bar(uar) => box_plan(s.with_info(Info { uar, ..info }), Prepare::Inbox, top),
-        Found::Refused => part(s, Refusal::Bar, books, top),
-        Found::BadList => part(s, Refusal::List, books, top),
+        Found::Bar(uar) => box_plan(Core { uar, ..s }, Prepare::Inbox, top),
+        Found::Refused => part(s, Refusal::Bar, top),
+        Found::BadList => part(s, Refusal::List, top),
     }
 }
 
-fn got_inbox(s: Session, y: Made, top: Top) -> Planned
-    ensures { λ r. ⌜ r ≡ p.inboxPlan s y top ⌝ }
+fn got_inbox(s: Core, y: Made, top: Top) -> Plan
+    ensures { λ r. ⌜ PlanIs r (λ b. p.inboxPlan (full s b) y top) ⌝ }
 {
-    let books = s.books;
     match y {
-        Made::Ready(b) => box_plan(
-            s.with_books(opening_values::with_inbox(books, b)),
-            Prepare::Outbox,
-            top,
-        ),
-        Made::Refused(f) => part(s, session::fault_of(f), books, top),
+        Made::Ready(_) => box_plan(s, Prepare::Outbox, top),
+        Made::Refused(f) => part(s, session::fault_of(f), top),
     }
 }
 
 // The outbox was not to be had: the inbox is freed, and the card given up.
-fn gives_inbox(s: Session, f: Fault, top: Top) -> Planned
-    ensures { λ r. ⌜ r ≡ p.givesInbox s f top ⌝ }
+fn gives_inbox(s: Core, f: Fault, top: Top, m: &[u8]) -> Plan
+    ensures { λ r. ⌜ planIn r (behindIn (now (m .entry))) ≡ p.givesInbox (full s (behindIn (now (m .entry)))) f top ⌝ }
 {
-    let books = s.books;
-    let held = books.held;
-    let hold = held.inbox;
-    match hold {
-        Hold::Absent => part(s, session::fault_of(f), giving::emptied_books(books), top),
-        Hold::Held(b) => opening_values::plan(
-            s.start(
-                Stage::Prepare(Prepare::GiveInbox(f)),
-                Task::Free(Freeing::start(b)),
-            ),
-            Fill::Nothing,
+    giving::free_from(gives_up(s, session::fault_of(f)), 0, top.count, m)
+}
+
+fn got_outbox(s: Core, y: Made, top: Top, m: &[u8]) -> Plan
+    ensures { λ r. ⌜ planIn r (behindIn (now (m .entry))) ≡ p.outboxPlan (full s (behindIn (now (m .entry)))) y top ⌝ }
+{
+    match y {
+        Made::Ready(_) => Plan::new(
+            s.start(Stage::Prepare(Prepare::Look), Task::Look),
             top.count,
         ),
+        Made::Refused(f) => gives_inbox(s, f, top, m),
     }
-}
-
-fn got_outbox(s: Session, y: Made, top: Top) -> Planned
-    ensures { λ r. ⌜ r ≡ p.outboxPlan s y top ⌝ }
-{
-    let books = s.books;
-    match y {
-        Made::Ready(b) => {
-            let t = s.with_books(opening_values::with_outbox(books, b));
-            opening_values::plan(
-                t.start(Stage::Prepare(Prepare::Look), Task::Look),
-                Fill::Nothing,
-                top.count,
-            )
-        }
-        Made::Refused(f) => gives_inbox(s, f, top),
-    }
-}
-
-fn inbox_given(s: Session, f: Fault, top: Top) -> Planned
-    ensures { λ r. ⌜ r ≡ p.inboxGiven s f top ⌝ }
-{
-    let books = s.books;
-    part(s, session::fault_of(f), giving::emptied_books(books), top)
 }
 
 // The first command.
-fn looked(s: Session, toggle: bool, top: Top) -> Planned
-    ensures { λ r. ⌜ r ≡ p.lookedPlan s toggle top ⌝ }
+fn looked(s: Core, toggle: bool, top: Top, m: &[u8]) -> Plan
+    ensures { λ r. ⌜ planIn r (behindIn (now (m .entry))) ≡ p.lookedPlan (full s (behindIn (now (m .entry)))) toggle top ⌝ }
 {
-    let books = s.books;
     opening_values::ask(
-        s.with_books(opening_values::with_toggle(books, toggle)),
+        opening_values::with_toggle(s, toggle),
         Boot::QueryFw,
         Op::QUERY_FW,
         0,
         top,
+        m,
     )
 }
 
 // What follows when a task before bring-up has ended.
-pub fn prepared(s: Session, stage: Prepare, end: End, top: Top) -> Planned
-    ensures { λ r. ⌜ r ≡ p.preparePlan s stage end top ⌝ }
+pub fn prepared(s: Core, stage: Prepare, end: End, top: Top, m: &[u8]) -> Plan
+    ensures { λ r. ⌜ planIn r (behindIn (now (m .entry))) ≡ p.preparePlan (full s (behindIn (now (m .entry)))) stage end top ⌝ }
 {
     match stage {
         Prepare::Attributes => enabled(s, opening_values::attr_in(end), top),
@@ -223,19 +170,17 @@ pub fn prepared(s: Session, stage: Prepare, end: End, top: Top) -> Planned
         Prepare::Reset => was_reset(s, giving::reset_in(end), top),
         Prepare::Bar => found(s, opening_values::bar_in(end), top),
         Prepare::Inbox => got_inbox(s, session::made_in(end), top),
-        Prepare::Outbox => got_outbox(s, session::made_in(end), top),
-        Prepare::GiveInbox(f) => inbox_given(s, f, top),
-        Prepare::Look => looked(s, opening_values::toggle_in(end), top),
+        Prepare::Outbox => got_outbox(s, session::made_in(end), top, m),
+        Prepare::Look => looked(s, opening_values::toggle_in(end), top, m),
     }
 }
 
 // An opening begins.
-pub fn open(s: Session, top: Top) -> Planned
-    ensures { λ r. ⌜ r ≡ p.openPlan s top ⌝ }
+pub fn open(s: Core, top: Top) -> Plan
+    ensures { λ r. ⌜ PlanIs r (λ b. p.openPlan (full s b) top) ⌝ }
 {
-    opening_values::plan(
+    Plan::new(
         s.start(Stage::Prepare(Prepare::Attributes), Task::Attr(Attr::Get)),
-        Fill::Nothing,
         top.count,
     )
 }

@@ -10,9 +10,11 @@ use Rattle.reply.specs.declared.DevCap.{DevCap}
 use Rattle.reply.specs.declared.FuncInfo.{FuncInfo}
 use Rattle.layout.specs.Counts.{baseSqpn, firstFreeMtt}
 use Rattle.layout.specs.declared.Table.{Table}
-use Rattle.words_session.specs.Image.{toldFor}
+use Rattle.words_info.specs.declared.Told.{Told}
 use Rattle.pci.specs.Refusals.{refusal}
 use Rattle.pci.specs.declared.Refusal.{Refusal}
+use Rattle.session.specs.Session.{slotAt}
+use Rattle.session.specs.declared.Slot.{Slot}
 use Rattle.session.specs.declared.Gave.{Gave}
 use Rattle.session.specs.declared.Gave.the-variants as g
 use Rattle.session.specs.declared.Closing.{Closing}
@@ -23,7 +25,7 @@ use Rattle.fw_plan.specs.declared.Outcome as fw
 use Rattle.fw_plan.specs.declared.Outcome.the-variants as u
 
 -- WHAT HAS BECOME of a session: 0 not opened yet, 1 a call is running, 3 the opening failed, 4 closed; open, and the last call gave 2 nothing, 5 a command's immediate
--- and the microseconds waited, 6 a buffer, 7 a failure. Behind 3 and 7 document 01's number and the values beside it; last, how the closing went
+-- and the microseconds waited, 6 a buffer, that of its slot, 7 a failure. Behind 3 and 7 document 01's number and the values beside it; last, how the closing went
 abbrev pub besideOf : {A : Type 0} → Outcome A → List ℕ
 besideOf (value x) = []
 besideOf (refused n vs) = vs
@@ -39,18 +41,18 @@ endWord c.Kept = 2
 abbrev pub refusedWords : (kind : ℕ) → Refusal → (end : ℕ) → List ℕ
 refusedWords k why n = k ∷ numberOf {A = Unit {0}} (refusal why) ∷ at (valuesOf why) 0 ∷ at (valuesOf why) 1 ∷ n ∷ []
 
-abbrev pub gaveWords : Gave → List ℕ
-gaveWords g.Nothing = 2 ∷ 0 ∷ 0 ∷ 0 ∷ 0 ∷ []
-gaveWords (g.Command x us) = 5 ∷ x ∷ us ∷ 0 ∷ 0 ∷ []
-gaveWords (g.Lent b) = 6 ∷ b .handle ∷ b .dev ∷ b .pages ∷ 0 ∷ []
-gaveWords (g.Failed why) = refusedWords 7 why 0
+abbrev pub gaveWords : List Slot → Gave → List ℕ
+gaveWords l g.Nothing = 2 ∷ 0 ∷ 0 ∷ 0 ∷ 0 ∷ []
+gaveWords l (g.Command x us) = 5 ∷ x ∷ us ∷ 0 ∷ 0 ∷ []
+gaveWords l (g.Lent i) = 6 ∷ slotAt l i .handle ∷ slotAt l i .dev ∷ slotAt l i .pages ∷ 0 ∷ []
+gaveWords l (g.Failed why) = refusedWords 7 why 0
 
-abbrev pub outcomeWords : fw.Outcome → List ℕ
-outcomeWords u.Fresh = 0 ∷ 0 ∷ 0 ∷ 0 ∷ 0 ∷ []
-outcomeWords u.Running = 1 ∷ 0 ∷ 0 ∷ 0 ∷ 0 ∷ []
-outcomeWords (u.Opened y) = gaveWords y
-outcomeWords (u.Failed why k) = refusedWords 3 why (endWord k)
-outcomeWords (u.Closed k) = 4 ∷ 0 ∷ 0 ∷ 0 ∷ endWord k ∷ []
+abbrev pub outcomeWords : List Slot → fw.Outcome → List ℕ
+outcomeWords l u.Fresh = 0 ∷ 0 ∷ 0 ∷ 0 ∷ 0 ∷ []
+outcomeWords l u.Running = 1 ∷ 0 ∷ 0 ∷ 0 ∷ 0 ∷ []
+outcomeWords l (u.Opened y) = gaveWords l y
+outcomeWords l (u.Failed why k) = refusedWords 3 why (endWord k)
+outcomeWords l (u.Closed k) = 4 ∷ 0 ∷ 0 ∷ 0 ∷ endWord k ∷ []
 
 -- WHAT AN OPENING HAS FOUND OUT: the UAR BAR, what QUERY_FUNC said and the revision from word 0 on; the capabilities, with what QUERY_FUNC replaces, from 8; the
 -- ports from 40 and 57; how many were asked about, the total, the first special QP and the first free MTT from 74; the tables from 78
@@ -87,8 +89,11 @@ portsOf n = pick (n .rev3) (n .cap .ports) 0
 abbrev pub tableWords : Table → List ℕ
 tableWords t = t .index ∷ t .entry ∷ t .count ∷ t .bytes ∷ t .base ∷ []
 
+abbrev pub toldIn : Info → Told
+toldIn n = record { uar = n .uar; func = n .func; rev3 = n .rev3 }
+
 unfoldable pub putSaid : List ℕ → Info → List ℕ
-putSaid s n = putWords (putWords s 0 (toldWords (toldFor n))) 8 (capWords (merged (n .cap) (n .func)))
+putSaid s n = putWords (putWords s 0 (toldWords (toldIn n))) 8 (capWords (merged (n .cap) (n .func)))
 
 unfoldable pub putPorts : List ℕ → Info → List ℕ
 putPorts s n = putWords (putWords s 40 (portWords (n .port1))) 57 (portWords (n .port2))

@@ -14,7 +14,7 @@ use Rattle.buffer.specs.declared.Made.{Made}
 use Rattle.buffer.specs.declared.Made.the-variants as m
 use Rattle.work.specs.declared.End.{End}
 use Rattle.work.specs.declared.End.the-variants as e
-use Rattle.session.specs.Session.{wired, broken}
+use Rattle.session.specs.Session.{wired, broken, slotAt}
 use Rattle.session.specs.declared.Books.{Books}
 use Rattle.session.specs.declared.Gave.{Gave}
 use Rattle.session.specs.declared.Gave.the-variants as v
@@ -67,8 +67,8 @@ madeIn (e.Cmd y) = m.Refused f.Memory
 madeIn e.Parted = m.Refused f.Memory
 
 -- WHAT A CALL GAVE: its values, or document 01's number with the values beside it
-abbrev pub gaveOf : Gave → Outcome (List ℕ)
-gaveOf v.Nothing = value []
-gaveOf (v.Command y us) = value (y ∷ us ∷ [])
-gaveOf (v.Lent b) = value (b .handle ∷ b .dev ∷ b .pages ∷ [])
-gaveOf (v.Failed y) = refusal y
+abbrev pub gaveOf : Books → Gave → Outcome (List ℕ)
+gaveOf b v.Nothing = value []
+gaveOf b (v.Command y us) = value (y ∷ us ∷ [])
+gaveOf b (v.Lent i) = value (slotAt (b .lists .slots) i .handle ∷ slotAt (b .lists .slots) i .dev ∷ slotAt (b .lists .slots) i .pages ∷ [])
+gaveOf b (v.Failed y) = refusal y

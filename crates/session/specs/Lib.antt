@@ -1,3 +1,4 @@
 pub mod Session
 pub mod Course
 pub mod Failures
+pub mod Core

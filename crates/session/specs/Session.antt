@@ -1,8 +1,8 @@
 -- The session's values: its books at the start, and how a step changes them.
-use Prim.Native.Nat.{ℕ, _+_, _*_, _%_, _^_}
+use Prim.Native.Nat.{ℕ, zero, suc, _+_, _*_, _%_, _^_}
 use mathlib.Core.Bool.{Bool, true, false, not}
-use mathlib.Core.List.{List}
-use lib.Dec.{ltb}
+use mathlib.Core.List.{List, [], _∷_, _++_}
+use lib.Dec.{eqb, ltb}
 use lib.ListN.{getD, set, replicate}
 use Rattle.fields.specs.Outcome.{pick}
 use Rattle.bars.specs.declared.Size.the-variants as z
@@ -21,11 +21,8 @@ use Rattle.work.specs.Work.{working, resting}
 use Rattle.work.specs.declared.Task.{Task}
 use Rattle.work.specs.declared.Task.the-variants as t
 use Rattle.work.specs.declared.Work.{Work}
-use Rattle.session.specs.declared.Hold.{Hold}
-use Rattle.session.specs.declared.Hold.the-variants as o
-use Rattle.session.specs.declared.Icm.{Icm}
+use Rattle.session.specs.declared.Slot.{Slot}
 use Rattle.session.specs.declared.Wire.{Wire}
-use Rattle.session.specs.declared.Held.{Held}
 use Rattle.session.specs.declared.Lists.{Lists}
 use Rattle.session.specs.declared.Books.{Books}
 use Rattle.session.specs.declared.Info.{Info}
@@ -39,22 +36,29 @@ use Rattle.session.specs.declared.Session.{Session}
 use Rattle.session.specs.declared.Fill.{Fill}
 use Rattle.session.specs.declared.Planned.{Planned}
 
-abbrev pub noBuffer : Buffer
-noBuffer = record { handle = 0; dev = 0; pages = 0 }
+-- THE SLOTS, in the order in which a closing frees them: 0 to 63 lent, 64 to 77 the ranges, 78 the auxiliary area, 79 the firmware area, 80 the inbox, 81 the outbox
+abbrev pub noSlot : Slot
+noSlot = record { runs = 0; virt = 0; handle = 0; dev = 0; pages = 0; mapped = false }
 
-abbrev pub noIcm : Icm
-noIcm = record { virt = 0; handle = 0; dev = 0; pages = 0 }
+-- a run as it was handed over, and one that is mapped
+abbrev pub bare : (virt handle pages : ℕ) → Slot
+bare v h n = record { runs = 1; virt = v; handle = h; dev = 0; pages = n; mapped = false }
+
+abbrev pub mappedAt : Slot → (dev : ℕ) → Slot
+mappedAt x d = record { runs = x .runs; virt = x .virt; handle = x .handle; dev = d; pages = x .pages; mapped = true }
+
+abbrev pub unmappedFrom : Slot → Slot
+unmappedFrom x = record { runs = x .runs; virt = x .virt; handle = x .handle; dev = x .dev; pages = x .pages; mapped = false }
 
 -- THE BOOKS
-abbrev pub books : Wire → Held → Lists → Bool → ℕ → Books
-books w h l s a = record { wire = w; held = h; lists = l; started = s; original = a }
+abbrev pub books : Wire → Lists → Bool → ℕ → Books
+books w l s a = record { wire = w; lists = l; started = s; original = a }
 
 -- nothing is held yet; the toggle is 1
 abbrev pub noBooks : Books
 noBooks =
     books (record { toggle = true; running = false; broken = false; silent = false; catas = k.Unknown })
-    (record { inbox = o.Absent; outbox = o.Absent; fa = o.Absent; aux = o.Absent })
-    (record { icm = replicate 14 noIcm; ranges = 0; lent = replicate 64 noBuffer; lends = 0 }) false 0
+    (record { slots = replicate 82 noSlot; ranges = 0; lends = 0 }) false 0
 
 abbrev pub noInfo : Info
 noInfo =
@@ -68,41 +72,86 @@ noInfo =
     }
 
 abbrev pub wired : Books → Wire → Books
-wired b w = books w (b .held) (b .lists) (b .started) (b .original)
-
-abbrev pub holding : Books → Held → Books
-holding b h = books (b .wire) h (b .lists) (b .started) (b .original)
+wired b w = books w (b .lists) (b .started) (b .original)
 
 abbrev pub listing : Books → Lists → Books
-listing b l = books (b .wire) (b .held) l (b .started) (b .original)
+listing b l = books (b .wire) l (b .started) (b .original)
 
--- the lent buffer and the range of a number
-abbrev pub bufferAt : List Buffer → ℕ → Buffer
-bufferAt l i = getD l i noBuffer
+-- the slot of a number, and of a range; its buffer, if it has one
+abbrev pub slotAt : List Slot → ℕ → Slot
+slotAt l i = getD l i noSlot
 
-abbrev pub icmAt : List Icm → ℕ → Icm
-icmAt l i = getD l i noIcm
+abbrev pub icmAt : List Slot → ℕ → Slot
+icmAt l i = slotAt l (64 + i)
 
-abbrev pub bufferOf : Icm → Buffer
+abbrev pub bufferOf : Slot → Buffer
 bufferOf x = record { handle = x .handle; dev = x .dev; pages = x .pages }
+
+abbrev pub isHeld : Slot → Bool
+isHeld x = not (eqb (x .runs) 0)
+
+abbrev pub inSlot : Slot → List Buffer
+inSlot x = pick (isHeld x) (bufferOf x ∷ []) []
+
+abbrev pub AUX : ℕ
+AUX = 78
+
+abbrev pub FA : ℕ
+FA = 79
+
+abbrev pub INBOX : ℕ
+INBOX = 80
+
+abbrev pub OUTBOX : ℕ
+OUTBOX = 81
+
+abbrev pub auxOf : Books → Slot
+auxOf b = slotAt (b .lists .slots) AUX
+
+abbrev pub faOf : Books → Slot
+faOf b = slotAt (b .lists .slots) FA
+
+abbrev pub inboxOf : Books → Slot
+inboxOf b = slotAt (b .lists .slots) INBOX
+
+abbrev pub outboxOf : Books → Slot
+outboxOf b = slotAt (b .lists .slots) OUTBOX
+
+-- WHAT IS HELD, in the order in which it is freed: of the m slots from i on, and in all
+unfoldable pub namedFrom : (m i : ℕ) → List Slot → List Buffer
+namedFrom zero i l = []
+namedFrom (suc m) i l = inSlot (slotAt l i) ++ namedFrom m (suc i) l
+
+abbrev pub named : Books → List Buffer
+named b = namedFrom 82 0 (b .lists .slots)
+
+-- this in that slot; nothing there
+abbrev pub puts : ℕ → Slot → Books → Books
+puts i x b = listing b (record { slots = set (b .lists .slots) i x; ranges = b .lists .ranges; lends = b .lists .lends })
+
+abbrev pub takenOff : ℕ → Books → Books
+takenOff i b = puts i noSlot b
 
 -- the bytes of a buffer, modulo 2^64; one that was made has no more
 abbrev pub bytesIn : Buffer → ℕ
 bytesIn b = b .pages % 2 ^ 52 * 4096
 
-abbrev pub deviceOf : Hold → ℕ
-deviceOf o.Absent = 0
-deviceOf (o.Held b) = b .dev
-
 -- COMMANDS as they are posted: "imm", with the inbox's address, or with the outbox's
 abbrev pub immOf : (op modifier inMod inParam : ℕ) → Post
 immOf op m n x = record { op = op; «op_mod» = m; «in_mod» = n; «in_param» = x; «out_param» = 0 }
 
-abbrev pub withInOf : Held → (op inMod : ℕ) → Post
-withInOf h op n = record { op = op; «op_mod» = 0; «in_mod» = n; «in_param» = deviceOf (h .inbox); «out_param» = 0 }
+abbrev pub namesIn : (inbox op inMod : ℕ) → Post
+namesIn d op n = record { op = op; «op_mod» = 0; «in_mod» = n; «in_param» = d; «out_param» = 0 }
 
-abbrev pub withOutOf : Held → (op inMod : ℕ) → Post
-withOutOf h op n = record { op = op; «op_mod» = 0; «in_mod» = n; «in_param» = 0; «out_param» = deviceOf (h .outbox) }
+abbrev pub namesOut : (outbox op inMod : ℕ) → Post
+namesOut d op n = record { op = op; «op_mod» = 0; «in_mod» = n; «in_param» = 0; «out_param» = d }
+
+-- a mailbox's address is that of its slot, 0 where there is none
+abbrev pub withInOf : Books → (op inMod : ℕ) → Post
+withInOf b op n = namesIn (inboxOf b .dev) op n
+
+abbrev pub withOutOf : Books → (op inMod : ℕ) → Post
+withOutOf b op n = namesOut (outboxOf b .dev) op n
 
 -- "A Timeout, unless silent, reads the catastrophic buffer once if known"
 abbrev pub catasFor : Wire → Catas
@@ -127,11 +176,9 @@ broken w = record { toggle = w .toggle; running = w .running; broken = true; sil
 abbrev pub silent : Wire → Wire
 silent w = record { toggle = w .toggle; running = w .running; broken = w .broken; silent = true; catas = w .catas }
 
--- one lent buffer more; a full list stays as it is, and no call lends then: 19
-abbrev pub lentTo : Buffer → Books → Books
-lentTo x b =
-    pick (ltb (b .lists .lends) 64)
-    (listing b (record { icm = b .lists .icm; ranges = b .lists .ranges; lent = set (b .lists .lent) (b .lists .lends) x; lends = b .lists .lends + 1 })) b
+-- one lent buffer more, which is in its slot; a full list stays as it is, and no call lends then: 19
+abbrev pub lentTo : Books → Books
+lentTo b = pick (ltb (b .lists .lends) 64) (listing b (record { slots = b .lists .slots; ranges = b .lists .ranges; lends = b .lists .lends + 1 })) b
 
 -- THE SESSION
 abbrev pub session : Stage → Work → Books → Info → Failure → Closing → Session

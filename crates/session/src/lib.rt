@@ -20,22 +20,36 @@ use work::Task;
 use work::Work;
 ghost use mathlib.Core.Path.{_≡_};
 ghost use Prim.Native.Nat.{_+_, _*_, _%_, _<_};
-ghost use Rattle.session.specs.Session.{noBooks, noInfo, fresh, starts, bookkeeps, informs, sendsOf, tookOf, catasFor, endSeen};
-ghost use Rattle.session.specs.Session.{immOf, withInOf, withOutOf, deviceOf, bufferOf, bufferAt, icmAt, bytesIn, breaksOf, silencedOf, lentTo};
+ghost use Rattle.session.specs.declared.Fill.the-variants.{Nothing};
+ghost use Rattle.session.specs.Session.{fresh, bookkeeps, catasFor, endSeen};
+ghost use Rattle.session.specs.Core.{full, noneBehind, FullIs, leads, startOf, sendOf, tookBy, breakOf, silenceOf};
+ghost use Rattle.session.specs.Session.{immOf, namesIn, namesOut, bufferOf, slotAt, bytesIn, lentTo};
 ghost use Rattle.session.specs.Failures.{faultOf, failureOf, needsReset, immediateOf, noMemory, madeIn, brokenBy};
 
-// A buffer that the session holds, or none.
-pub enum Hold {
-    Absent,
-    Held(Buffer),
-}
-
-// A range of ICM space and the buffer that backs it.
-pub struct Icm {
+// A slot of the books: how many runs of pages it has, none or one; the card address, of a range; the run's handle, device address and pages, and whether it is mapped.
+pub struct Slot {
+    pub runs: u64,
     pub virt: u64,
     pub handle: u64,
     pub dev: u64,
     pub pages: u64,
+    pub mapped: bool,
+}
+
+impl Slot {
+    pub const LENT: usize = 64;
+
+    pub const RANGES: usize = 14;
+
+    pub const AUX: usize = 78;
+
+    pub const FA: usize = 79;
+
+    pub const INBOX: usize = 80;
+
+    pub const OUTBOX: usize = 81;
+
+    pub const COUNT: usize = 82;
 }
 
 // How the command register stands: the toggle of the next command; whether a command may still run, its end not seen; whether the card can no longer be trusted
@@ -48,26 +62,17 @@ pub struct Wire {
     pub catas: Catas,
 }
 
-// The mailboxes, the firmware area and the auxiliary area.
-pub struct Held {
-    pub inbox: Hold,
-    pub outbox: Hold,
-    pub fa: Hold,
-    pub aux: Hold,
-}
-
-// The ICM ranges in mapping order, the lent buffers in lending order, and how many there are of each.
+// The buffers in the order in which a closing frees them: 0 to 63 lent, in lending order; 64 to 77 the ranges, in mapping order; 78 the auxiliary area; 79 the firmware
+// area; 80 the inbox; 81 the outbox. And how many were lent and mapped.
 pub struct Lists {
-    pub icm: [Icm; 14],
+    pub slots: [Slot; 82],
     pub ranges: usize,
-    pub lent: [Buffer; 64],
     pub lends: usize,
 }
 
 // What the session holds; whether INIT_HCA was seen good; the attributes before the opening.
 pub struct Books {
     pub wire: Wire,
-    pub held: Held,
     pub lists: Lists,
     pub started: bool,
     pub original: u64,
@@ -108,8 +113,6 @@ pub enum Prepare {
     Bar,
     Inbox,
     Outbox,
-    // The outbox was not to be had: the inbox is given back.
-    GiveInbox(Fault),
     Look,
 }
 
@@ -128,8 +131,7 @@ pub enum Boot {
     Adapter,
 }
 
-// What the task under way is for, in a closing. `Undo` has how many more may be sent; the ranges below `Unmap` are still to be unmapped; lent buffers and ranges
-// from the number of `FreeLent` and `FreeIcm` on are still to be freed. A quiesce sends the same commands, and ends with `Quiesce`.
+// What the task under way is for, in a closing. `Undo` has how many more may be sent; the ranges below `Unmap` are still to be unmapped; the slots from that of `Free` on are still to be freed. A quiesce sends the same commands, and ends with `Quiesce`.
 pub enum Close {
     Undo(u32),
     CloseHca,
@@ -138,12 +140,7 @@ pub enum Close {
     UnmapFa,
     Quiesce,
     Reset,
-    FreeLent(usize),
-    FreeIcm(usize),
-    FreeAux,
-    FreeFa,
-    FreeInbox,
-    FreeOutbox,
+    Free(usize),
     Release,
     Restore,
 }
@@ -157,19 +154,19 @@ pub enum Form {
     InOut,
 }
 
-// What the task under way is for, in a client's call on an open session: a command; a buffer to be lent; the newest undo record, while more than so many are on the
+// What the task under way is for, in a client's call on an open session: a command; a buffer to be lent, in this slot; the newest undo record, while more than so many are on the
 // list, with how many more may be sent.
 pub enum Client {
     Command(Form),
-    Lend,
+    Lend(usize),
     UndoTo(usize, u32),
 }
 
-// What the last call on an open session gave: nothing; a command's immediate and the microseconds waited; the buffer that was lent; or why it failed.
+// What the last call on an open session gave: nothing; a command's immediate and the microseconds waited; the slot of the buffer that was lent; or why it failed.
 pub enum Gave {
     Nothing,
     Command(u64, u64),
-    Lent(Buffer),
+    Lent(usize),
     Failed(Refusal),
 }
 
@@ -223,76 +220,36 @@ pub struct Planned {
     pub undo: usize,
 }
 
-impl Books {
-    pub fn none() -> Books
-        ensures { λ r. ⌜ r ≡ noBooks ⌝ }
-    {
-        Books {
-            wire: Wire {
-                toggle: true,
-                running: false,
-                broken: false,
-                silent: false,
-                catas: Catas::Unknown,
-            },
-            held: Held {
-                inbox: Hold::Absent,
-                outbox: Hold::Absent,
-                fa: Hold::Absent,
-                aux: Hold::Absent,
-            },
-            lists: Lists {
-                icm: [Icm {
-                    virt: 0,
-                    handle: 0,
-                    dev: 0,
-                    pages: 0,
-                }; 14],
-                ranges: 0,
-                lent: [Buffer {
-                    handle: 0,
-                    dev: 0,
-                    pages: 0,
-                }; 64],
-                lends: 0,
-            },
-            started: false,
-            original: 0,
-        }
-    }
+// The head of a session by value: all of it but the parts that stand behind the head in the session's bytes, which are read and written there: the reset and the
+// search for the UAR BAR, the capabilities, the ports, and the slots.
+pub struct Core {
+    pub stage: Stage,
+    pub task: Task,
+    pub wire: Wire,
+    pub ranges: usize,
+    pub lends: usize,
+    pub started: bool,
+    pub original: u64,
+    pub uar: Pick,
+    pub func: FuncInfo,
+    pub rev3: bool,
+    pub failure: Failure,
+    pub closing: Closing,
 }
 
-impl Info {
-    pub fn none() -> Info
-        ensures { λ r. ⌜ r ≡ noInfo ⌝ }
-    {
-        Info {
-            uar: Pick {
-                index: 0,
-                size: Size::Unknown,
-                how: How::NoMatch,
-            },
-            cap: DevCap::none(),
-            func: FuncInfo {
-                rsvd_eqs: 0,
-                max_eqs: 0,
-                rsvd_uars: 0,
-            },
-            port1: PortInfo::none(),
-            port2: PortInfo::none(),
-            rev3: false,
-        }
-    }
+// What a reply in the outbox leaves behind the head: nothing, the capabilities, or what it says of a port.
+pub enum Note {
+    Nothing,
+    Cap,
+    Port(u8),
 }
 
-// The device address of a mailbox; 0 where there is none.
-pub fn device(h: Hold) -> u64
-    ensures { λ r. ⌜ r ≡ deviceOf h ⌝ }
-{
-    match h {
-        Hold::Absent => 0,
-        Hold::Held(b) => b.dev,
-    }
+// Where a plan leads, as the code has it: the head, what is to be written to the mailboxes, and how many undo records are left. A reset or a search for the UAR BAR that begins
+// with it begins anew.
+pub struct Plan {
+    pub core: Core,
+    pub fill: Fill,
+    pub undo: usize,
 }
 
 // A command without mailboxes.
@@ -308,31 +265,29 @@ pub fn imm(op: u16, op_mod: u8, in_mod: u32, in_param: u64) -> Post
     }
 }
 
-// A command that names the inbox.
-pub fn with_in(held: Held, op: u16, in_mod: u32) -> Post
-    ensures { λ r. ⌜ r ≡ withInOf held op «in_mod» ⌝ }
+// A command that names the inbox, which is at this address.
+pub fn with_in(inbox: u64, op: u16, in_mod: u32) -> Post
+    ensures { λ r. ⌜ r ≡ namesIn inbox op «in_mod» ⌝ }
 {
-    let inbox = held.inbox;
     Post {
         op,
         op_mod: 0,
         in_mod,
-        in_param: device(inbox),
+        in_param: inbox,
         out_param: 0,
     }
 }
 
 // A command that names the outbox.
-pub fn with_out(held: Held, op: u16, in_mod: u32) -> Post
-    ensures { λ r. ⌜ r ≡ withOutOf held op «in_mod» ⌝ }
+pub fn with_out(outbox: u64, op: u16, in_mod: u32) -> Post
+    ensures { λ r. ⌜ r ≡ namesOut outbox op «in_mod» ⌝ }
 {
-    let outbox = held.outbox;
     Post {
         op,
         op_mod: 0,
         in_mod,
         in_param: 0,
-        out_param: device(outbox),
+        out_param: outbox,
     }
 }
 
@@ -356,34 +311,6 @@ pub fn end_seen(r: CmdResult) -> bool
         CmdResult::Timeout(_) => false,
         CmdResult::Busy => false,
         CmdResult::Bus(_) => false,
-    }
-}
-
-// The lent buffer of this number, and the range of this number; nothing where there is none.
-pub fn lent_at(lent: [Buffer; 64], i: usize) -> Buffer
-    ensures { λ r. ⌜ r ≡ bufferAt lent i ⌝ }
-{
-    if i < 64 {
-        return lent[i];
-    }
-    Buffer {
-        handle: 0,
-        dev: 0,
-        pages: 0,
-    }
-}
-
-pub fn icm_at(icm: [Icm; 14], i: usize) -> Icm
-    ensures { λ r. ⌜ r ≡ icmAt icm i ⌝ }
-{
-    if i < 14 {
-        return icm[i];
-    }
-    Icm {
-        virt: 0,
-        handle: 0,
-        dev: 0,
-        pages: 0,
     }
 }
 
@@ -466,8 +393,8 @@ pub fn made_in(end: End) -> Made
     }
 }
 
-// The buffer of a range.
-pub fn buffer_of(x: Icm) -> Buffer
+// The buffer of a slot.
+pub fn buffer_of(x: Slot) -> Buffer
     ensures { λ r. ⌜ r ≡ bufferOf x ⌝ }
 {
     Buffer {
@@ -477,53 +404,57 @@ pub fn buffer_of(x: Icm) -> Buffer
     }
 }
 
-impl Session {
-    // A session that was not opened yet.
-    pub fn fresh() -> Session
-        ensures { λ r. ⌜ r ≡ fresh ⌝ }
+impl Core {
+    // The head of a session that was not opened yet.
+    pub fn fresh() -> Core
+        ensures { λ r. ⌜ full r noneBehind ≡ fresh ⌝ }
     {
-        Session {
+        Core {
             stage: Stage::Fresh,
-            work: Work::rest(),
-            books: Books::none(),
-            info: Info::none(),
+            task: Task::Rest,
+            wire: Wire {
+                toggle: true,
+                running: false,
+                broken: false,
+                silent: false,
+                catas: Catas::Unknown,
+            },
+            ranges: 0,
+            lends: 0,
+            started: false,
+            original: 0,
+            uar: Pick {
+                index: 0,
+                size: Size::Unknown,
+                how: How::NoMatch,
+            },
+            func: FuncInfo {
+                rsvd_eqs: 0,
+                max_eqs: 0,
+                rsvd_uars: 0,
+            },
+            rev3: false,
             failure: Failure::Nothing,
             closing: Closing::Clean,
         }
     }
 
-    // The session with a task under way, and what it is for.
-    pub fn start(self, stage: Stage, task: Task) -> Session
-        ensures { λ r. ⌜ r ≡ starts self stage task ⌝ }
+    // A task is under way, and what it is for.
+    pub fn start(self, stage: Stage, task: Task) -> Core
+        ensures { λ r. ⌜ r ≡ startOf self stage task ⌝ }
     {
-        let before = self.work;
-        let work = Work { task, ..before };
-        Session {
+        Core {
             stage,
-            work,
+            task,
             ..self
         }
     }
 
-    // The session with other books, or with another word of the card.
-    pub fn with_books(self, books: Books) -> Session
-        ensures { λ r. ⌜ r ≡ bookkeeps self books ⌝ }
-    {
-        Session { books, ..self }
-    }
-
-    pub fn with_info(self, info: Info) -> Session
-        ensures { λ r. ⌜ r ≡ informs self info ⌝ }
-    {
-        Session { info, ..self }
-    }
-
     // A command begins.
-    pub fn send(self, stage: Stage, post: Post) -> Session
-        ensures { λ r. ⌜ r ≡ sendsOf self stage post ⌝ }
+    pub fn send(self, stage: Stage, post: Post) -> Core
+        ensures { λ r. ⌜ r ≡ sendOf self stage post ⌝ }
     {
-        let books = self.books;
-        let wire = books.wire;
+        let wire = self.wire;
         self.start(
             stage,
             Task::Cmd(Cmd::new(post, wire.toggle, catas_for(wire))),
@@ -531,38 +462,34 @@ impl Session {
     }
 
     // A command has ended: the toggle is its own, and it may still run where its end was not seen.
-    pub fn took(self, end: CmdEnd) -> Session
-        ensures { λ r. ⌜ r ≡ tookOf self end ⌝ }
+    pub fn took(self, end: CmdEnd) -> Core
+        ensures { λ r. ⌜ r ≡ tookBy self end ⌝ }
     {
-        let before = self.books;
-        let was = before.wire;
+        let was = self.wire;
         let result = end.result;
         let wire = Wire {
             toggle: end.toggle,
             running: !end_seen(result),
             ..was
         };
-        let books = Books { wire, ..before };
-        Session { books, ..self }
+        Core { wire, ..self }
     }
 
     // The card can no longer be trusted with commands.
-    pub fn breaks(self) -> Session
-        ensures { λ r. ⌜ r ≡ breaksOf self ⌝ }
+    pub fn breaks(self) -> Core
+        ensures { λ r. ⌜ r ≡ breakOf self ⌝ }
     {
-        let before = self.books;
-        let was = before.wire;
+        let was = self.wire;
         let wire = Wire {
             broken: true,
             ..was
         };
-        let books = Books { wire, ..before };
-        Session { books, ..self }
+        Core { wire, ..self }
     }
 
     // But for a status, a command that failed breaks the session.
-    pub fn broken_by(self, r: CmdResult) -> Session
-        ensures { λ y. ⌜ y ≡ bookkeeps self (brokenBy r (self .books)) ⌝ }
+    pub fn broken_by(self, r: CmdResult) -> Core
+        ensures { λ y. ⌜ FullIs y (λ b. bookkeeps (full self b) (brokenBy r (full self b .books))) ⌝ }
     {
         if needs_reset(r) {
             return self.breaks();
@@ -571,37 +498,41 @@ impl Session {
     }
 
     // A quiesce has begun.
-    pub fn silenced(self) -> Session
-        ensures { λ r. ⌜ r ≡ silencedOf self ⌝ }
+    pub fn silenced(self) -> Core
+        ensures { λ r. ⌜ r ≡ silenceOf self ⌝ }
     {
-        let before = self.books;
-        let was = before.wire;
+        let was = self.wire;
         let wire = Wire {
             silent: true,
             ..was
         };
-        let books = Books { wire, ..before };
-        Session { books, ..self }
+        Core { wire, ..self }
     }
 
-    // One lent buffer more; a full list stays as it is.
-    pub fn lends(self, b: Buffer) -> Session
-        ensures { λ r. ⌜ r ≡ bookkeeps self (lentTo b (self .books)) ⌝ }
+    // One lent buffer more, which is in its slot; a full list stays as it is.
+    pub fn lend(self) -> Core
+        ensures { λ r. ⌜ FullIs r (λ b. bookkeeps (full self b) (lentTo (full self b .books))) ⌝ }
     {
-        let before = self.books;
-        let was = before.lists;
-        let n = was.lends;
-        if n < 64 {
-            let mut lent = was.lent;
-            lent[n] = b;
-            let lists = Lists {
-                lent,
+        let n = self.lends;
+        if n < Slot::LENT {
+            return Core {
                 lends: n + 1,
-                ..was
+                ..self
             };
-            let books = Books { lists, ..before };
-            return Session { books, ..self };
         }
         self
+    }
+}
+
+impl Plan {
+    // Nothing is written to the mailboxes.
+    pub fn new(core: Core, undo: usize) -> Plan
+        ensures { λ r. ⌜ r ≡ leads core Nothing undo ⌝ }
+    {
+        Plan {
+            core,
+            fill: Fill::Nothing,
+            undo,
+        }
     }
 }

@@ -251,7 +251,7 @@ fn run(room: &mut [u8], state: &mut [u8], inbox: &mut [u8], outbox: &mut [u8]) {
 // All lists.
 pub(crate) fn lists() {
     let mut room = [0u8; 4096];
-    let mut state = [0u8; 3336];
+    let mut state = [0u8; words::STATE_BYTES];
     let mut inbox = [0u8; 4096];
     let mut outbox = [0u8; 4096];
     run(&mut room, &mut state, &mut inbox, &mut outbox);

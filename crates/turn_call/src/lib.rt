@@ -1,64 +1,13 @@
-// One call on the session that bytes hold: it is read, the call is made, and it is written again. And a call as its kind and its values.
-use abi::SHORT;
-use abi::WRONG;
+// A call as its kind and its values, on the session that bytes hold.
 use abi::Wanted;
 use calls_plan::Call;
 use client_plan::Request;
 use session::Form;
-use session::Session;
 use session::Top;
-use words_session::Kept;
 ghost use mathlib.Core.Path.{_≡_};
 ghost use Rattle.abi.specs.Turns as t;
 ghost use Rattle.abi.specs.Calls as c;
 ghost use Rattle.abi.specs.Kept as k;
-
-// A call on a session that was read: 20 where it is not the time for it, then 21 where there is no room for what it says.
-fn call_of(
-    s: Session,
-    call: Call,
-    input: &[u8],
-    inbox: &mut [u8],
-    outbox: &mut [u8],
-    top: Top,
-    state: &mut [u8],
-    out: &mut [u8],
-) -> u32
-    ensures { λ r. ⌜ t.after r (now (state .exit)) (now (inbox .exit)) (now (outbox .exit)) (now (out .exit)) ≡ t.callKnown s call (now (input .entry)) top (now (state .entry)) (now (inbox .entry)) (now (outbox .entry)) (now (out .entry)) ⌝ }
-    ensures { λ _. ⌜ k.Keeps (now (state .entry)) (now (state .exit)) s (k.callNext call (now (input .entry)) top (now (inbox .entry)) (now (outbox .entry)) (now (out .entry)) s) ⌝ }
-{
-    if calls::callable(s, call) {
-        if out.len() < turns::TURN {
-            return SHORT;
-        }
-        let t = calls::make(s, call, input, inbox, outbox, top);
-        return turns::taken(t, state, out);
-    }
-    WRONG
-}
-
-// Makes a call on the session that the bytes hold.
-pub fn call_bytes(
-    state: &mut [u8],
-    call: Call,
-    input: &[u8],
-    inbox: &mut [u8],
-    outbox: &mut [u8],
-    top: Top,
-    out: &mut [u8],
-) -> u32
-    ensures { λ r. ⌜ t.after r (now (state .exit)) (now (inbox .exit)) (now (outbox .exit)) (now (out .exit)) ≡ t.called call (now (input .entry)) top (now (state .entry)) (now (inbox .entry)) (now (outbox .entry)) (now (out .entry)) ⌝ }
-    ensures { λ _. ⌜ k.Holds (now (state .entry)) (now (state .exit)) (k.callNext call (now (input .entry)) top (now (inbox .entry)) (now (outbox .entry)) (now (out .entry))) ⌝ }
-{
-    let d = words_session::decode(state);
-    let kept = d.outcome;
-    let s = d.session;
-    match kept {
-        Kept::Good => call_of(s, call, input, inbox, outbox, top, state, out),
-        Kept::Short => SHORT,
-        Kept::NoSession => WRONG,
-    }
-}
 
 // The mark that a value stands for.
 pub fn mark_of(value: u64) -> usize
@@ -118,7 +67,7 @@ pub fn called(
     ensures { λ r. ⌜ (t.after r (now (state .exit)) (now (inbox .exit)) (now (outbox .exit)) (now (out .exit)) ≡ c.made kind op «op_mod» «in_mod» value reserved (now (input .entry)) top (now (state .entry)) (now (inbox .entry)) (now (outbox .entry)) (now (out .entry))) × k.Holds (now (state .entry)) (now (state .exit)) (k.wantedNext (c.callFrom kind op «op_mod» «in_mod» value reserved) (now (input .entry)) top (now (inbox .entry)) (now (outbox .entry)) (now (out .entry))) ⌝ }
 {
     match call_from(kind, op, op_mod, in_mod, value, reserved) {
-        Wanted::Known(x) => call_bytes(state, x, input, inbox, outbox, top, out),
+        Wanted::Known(x) => calls::make(state, x, input, inbox, outbox, top, out),
         Wanted::Unknown => abi::WRONG,
     }
 }

@@ -9,6 +9,51 @@ ghost use Rattle.fields.specs.declared.Order.the-variants.{Little};
 ghost use Rattle.fields.specs.Outcome.{pick};
 ghost use Rattle.words.specs.Words.{wordAt, wordsIn, putWords, sameWords, within, bitOf};
 
+// The image of a session, as specs/Places.antt has it: how many words each part has.
+pub const TASK: usize = 13;
+
+pub const STAGE: usize = 8;
+
+pub const LEDGER: usize = 16;
+
+pub const TOLD: usize = 8;
+
+pub const CAP: usize = 32;
+
+pub const PORT: usize = 17;
+
+pub const RESET: usize = 24;
+
+pub const FIND: usize = 18;
+
+pub const SLOT: usize = 6;
+
+pub const SLOTS: usize = 82;
+
+// The word that each begins at.
+pub const TASK_AT: usize = 0;
+
+pub const STAGE_AT: usize = TASK_AT + TASK;
+
+pub const LEDGER_AT: usize = STAGE_AT + STAGE;
+
+pub const TOLD_AT: usize = LEDGER_AT + LEDGER;
+
+pub const CAP_AT: usize = TOLD_AT + TOLD;
+
+pub const PORT1_AT: usize = CAP_AT + CAP;
+
+pub const PORT2_AT: usize = PORT1_AT + PORT;
+
+pub const RESET_AT: usize = PORT2_AT + PORT;
+
+pub const FIND_AT: usize = RESET_AT + RESET;
+
+pub const SLOTS_AT: usize = FIND_AT + FIND;
+
+// The bytes of the whole.
+pub const STATE_BYTES: usize = (SLOTS_AT + SLOTS * SLOT) * 8;
+
 // The n words from word k on lie within the slice. No sum is made, so no k overflows.
 pub fn room(s: &[u8], k: usize, n: usize) -> bool
     ensures { λ r. ⌜ r ≡ within (now (s .entry)) k n ⌝ }

@@ -1,4 +1,4 @@
--- A reset as 24 words, and a search for the UAR BAR as 18.
+-- A reset, and a search for the UAR BAR, as words.
 use Prim.Native.Nat.{ℕ, _%_}
 use mathlib.Core.List.{List, [], _∷_}
 use lib.Dec.{eqb}

@@ -1,4 +1,4 @@
-// What stands beside the task: a reset as 24 words, and a search for the UAR BAR as 18.
+// What stands beside the task: a reset, and a search for the UAR BAR, as words.
 use bars::Asking;
 use bars::BarRange;
 use bars::Candidate;
@@ -76,7 +76,7 @@ fn control_from(tag: u64, a: u64, b: u64, d: u64) -> Control
 }
 
 // A reset: its open question, the control words, and the saved dwords.
-pub fn reset_words(v: Reset) -> [u64; 24]
+pub fn reset_words(v: Reset) -> [u64; words::RESET]
     ensures { λ r. ⌜ r ≡ resetWords v ⌝ }
 {
     let phase = v.phase;
@@ -112,7 +112,7 @@ pub fn reset_words(v: Reset) -> [u64; 24]
     ]
 }
 
-pub fn reset_from(w: [u64; 24]) -> Reset
+pub fn reset_from(w: [u64; words::RESET]) -> Reset
     ensures { λ r. ⌜ r ≡ resetOf w ⌝ }
 {
     Reset {
@@ -292,7 +292,7 @@ fn bar_phase_from(
 }
 
 // A search for the UAR BAR: its open question, and the dwords that were read.
-pub fn find_words(v: FindBar) -> [u64; 18]
+pub fn find_words(v: FindBar) -> [u64; words::FIND]
     ensures { λ r. ⌜ r ≡ findWords v ⌝ }
 {
     let phase = v.phase;
@@ -320,7 +320,7 @@ pub fn find_words(v: FindBar) -> [u64; 18]
     ]
 }
 
-pub fn find_from(w: [u64; 18]) -> FindBar
+pub fn find_from(w: [u64; words::FIND]) -> FindBar
     ensures { λ r. ⌜ r ≡ findOf w ⌝ }
 {
     FindBar {

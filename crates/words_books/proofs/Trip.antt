@@ -8,18 +8,15 @@ use Rattle.words.specs.Words.{at}
 use Rattle.words.proofs.Laws.{Words, words-at, bit-back, bit-small}
 use Rattle.words_task.specs.Coding.{catasWords}
 use Rattle.words_task.proofs.Trip.{catas-back, catas-small}
-use Rattle.words_books.specs.Coding.{refusalWords, refusalOf, failureWords, failureOf, closingWords, closingOf, bufferWords, bufferOf, holdWords, holdOf, heldWords, heldOf, wireWords, wireOf, ledgerWords, ledgerOf}
-use Rattle.words_books.specs.Fits.{RefusalFits, FailureFits, ClosingFits, BufferFits, HoldFits, HeldFits, WireFits, LedgerFits}
+use Rattle.words_books.specs.Coding.{refusalWords, refusalOf, failureWords, failureOf, closingWords, closingOf, slotWords, slotOf, wireWords, wireOf, ledgerWords, ledgerOf}
+use Rattle.words_books.specs.Fits.{RefusalFits, FailureFits, ClosingFits, SlotFits, WireFits, LedgerFits}
 use Rattle.pci.specs.declared.Refusal.{Refusal}
 use Rattle.pci.specs.declared.Refusal.the-variants as rv
 use Rattle.session.specs.declared.Failure.{Failure}
 use Rattle.session.specs.declared.Failure.the-variants as fv
 use Rattle.session.specs.declared.Closing.{Closing}
 use Rattle.session.specs.declared.Closing.the-variants as cv
-use Rattle.dma.specs.declared.Buffer.{Buffer}
-use Rattle.session.specs.declared.Hold.{Hold}
-use Rattle.session.specs.declared.Hold.the-variants as hv
-use Rattle.session.specs.declared.Held.{Held}
+use Rattle.session.specs.declared.Slot.{Slot}
 use Rattle.session.specs.declared.Wire.{Wire}
 use Rattle.words_books.specs.declared.Ledger.{Ledger}
 
@@ -96,33 +93,12 @@ closing-small cv.Clean f = (lit< tt, tt)
 closing-small cv.Reset f = (lit< tt, tt)
 closing-small cv.Kept f = (lit< tt, tt)
 
-pub buffer-back : (v : Buffer) → BufferFits v → bufferOf (at (bufferWords v) 0) (at (bufferWords v) 1) (at (bufferWords v) 2) ≡ v
-buffer-back v f = refl
+pub slot-back : (v : Slot) → slotOf (slotWords v) ≡ v
+slot-back v = simp (bit-back (v .mapped))
 
-pub buffer-small : (v : Buffer) → BufferFits v → Words (bufferWords v)
+pub slot-small : (v : Slot) → SlotFits v → Words (slotWords v)
 unfolding Words
-buffer-small v f = (f .handle, (f .dev, (f .pages, tt)))
-
-pub hold-back : (v : Hold) → HoldFits v → holdOf (at (holdWords v) 0) (at (holdWords v) 1) (at (holdWords v) 2) (at (holdWords v) 3) ≡ v
-hold-back hv.Absent f = refl
-hold-back (hv.Held x) f = ap hv.Held (buffer-back x f)
-
-pub hold-small : (v : Hold) → HoldFits v → Words (holdWords v)
-unfolding Words
-hold-small hv.Absent f = (lit< tt, (lit< tt, (lit< tt, (lit< tt, tt))))
-hold-small (hv.Held x) f = (lit< tt, (words-at (bufferWords x) (buffer-small x f) 0, (words-at (bufferWords x) (buffer-small x f) 1, (words-at (bufferWords x) (buffer-small x f) 2, tt))))
-
-pub held-back : (v : Held) → HeldFits v → heldOf (at (heldWords v) 0) (at (heldWords v) 1) (at (heldWords v) 2) (at (heldWords v) 3) (at (heldWords v) 4) (at (heldWords v) 5) (at (heldWords v) 6) (at (heldWords v) 7) (at (heldWords v) 8) (at (heldWords v) 9) (at (heldWords v) 10) (at (heldWords v) 11) (at (heldWords v) 12) (at (heldWords v) 13) (at (heldWords v) 14) (at (heldWords v) 15) ≡ v
-held-back v f = simp (
-  hold-back (v .inbox) (f .inbox),
-  hold-back (v .outbox) (f .outbox),
-  hold-back (v .fa) (f .fa),
-  hold-back (v .aux) (f .aux),
-)
-
-pub held-small : (v : Held) → HeldFits v → Words (heldWords v)
-unfolding Words
-held-small v f = (words-at (holdWords (v .inbox)) (hold-small (v .inbox) (f .inbox)) 0, (words-at (holdWords (v .inbox)) (hold-small (v .inbox) (f .inbox)) 1, (words-at (holdWords (v .inbox)) (hold-small (v .inbox) (f .inbox)) 2, (words-at (holdWords (v .inbox)) (hold-small (v .inbox) (f .inbox)) 3, (words-at (holdWords (v .outbox)) (hold-small (v .outbox) (f .outbox)) 0, (words-at (holdWords (v .outbox)) (hold-small (v .outbox) (f .outbox)) 1, (words-at (holdWords (v .outbox)) (hold-small (v .outbox) (f .outbox)) 2, (words-at (holdWords (v .outbox)) (hold-small (v .outbox) (f .outbox)) 3, (words-at (holdWords (v .fa)) (hold-small (v .fa) (f .fa)) 0, (words-at (holdWords (v .fa)) (hold-small (v .fa) (f .fa)) 1, (words-at (holdWords (v .fa)) (hold-small (v .fa) (f .fa)) 2, (words-at (holdWords (v .fa)) (hold-small (v .fa) (f .fa)) 3, (words-at (holdWords (v .aux)) (hold-small (v .aux) (f .aux)) 0, (words-at (holdWords (v .aux)) (hold-small (v .aux) (f .aux)) 1, (words-at (holdWords (v .aux)) (hold-small (v .aux) (f .aux)) 2, (words-at (holdWords (v .aux)) (hold-small (v .aux) (f .aux)) 3, tt))))))))))))))))
+slot-small v f = (f .runs, (f .virt, (f .handle, (f .dev, (f .pages, (bit-small (v .mapped), tt))))))
 
 pub wire-back : (v : Wire) → WireFits v → wireOf (at (wireWords v) 0) (at (wireWords v) 1) (at (wireWords v) 2) (at (wireWords v) 3) (at (wireWords v) 4) (at (wireWords v) 5) (at (wireWords v) 6) ≡ v
 wire-back v f = simp (
@@ -141,11 +117,10 @@ pub ledger-back : (v : Ledger) → LedgerFits v → ledgerOf (ledgerWords v) ≡
 ledger-back v f = simp (
   bit-back (v .started),
   wire-back (v .wire) (f .wire),
-  held-back (v .held) (f .held),
   failure-back (v .failure) (f .failure),
   closing-back (v .closing) (f .closing),
 )
 
 pub ledger-small : (v : Ledger) → LedgerFits v → Words (ledgerWords v)
 unfolding Words
-ledger-small v f = (f .ranges, (f .lends, (bit-small (v .started), (f .original, (words-at (wireWords (v .wire)) (wire-small (v .wire) (f .wire)) 0, (words-at (wireWords (v .wire)) (wire-small (v .wire) (f .wire)) 1, (words-at (wireWords (v .wire)) (wire-small (v .wire) (f .wire)) 2, (words-at (wireWords (v .wire)) (wire-small (v .wire) (f .wire)) 3, (words-at (wireWords (v .wire)) (wire-small (v .wire) (f .wire)) 4, (words-at (wireWords (v .wire)) (wire-small (v .wire) (f .wire)) 5, (words-at (wireWords (v .wire)) (wire-small (v .wire) (f .wire)) 6, (words-at (heldWords (v .held)) (held-small (v .held) (f .held)) 0, (words-at (heldWords (v .held)) (held-small (v .held) (f .held)) 1, (words-at (heldWords (v .held)) (held-small (v .held) (f .held)) 2, (words-at (heldWords (v .held)) (held-small (v .held) (f .held)) 3, (words-at (heldWords (v .held)) (held-small (v .held) (f .held)) 4, (words-at (heldWords (v .held)) (held-small (v .held) (f .held)) 5, (words-at (heldWords (v .held)) (held-small (v .held) (f .held)) 6, (words-at (heldWords (v .held)) (held-small (v .held) (f .held)) 7, (words-at (heldWords (v .held)) (held-small (v .held) (f .held)) 8, (words-at (heldWords (v .held)) (held-small (v .held) (f .held)) 9, (words-at (heldWords (v .held)) (held-small (v .held) (f .held)) 10, (words-at (heldWords (v .held)) (held-small (v .held) (f .held)) 11, (words-at (heldWords (v .held)) (held-small (v .held) (f .held)) 12, (words-at (heldWords (v .held)) (held-small (v .held) (f .held)) 13, (words-at (heldWords (v .held)) (held-small (v .held) (f .held)) 14, (words-at (heldWords (v .held)) (held-small (v .held) (f .held)) 15, (words-at (failureWords (v .failure)) (failure-small (v .failure) (f .failure)) 0, (words-at (failureWords (v .failure)) (failure-small (v .failure) (f .failure)) 1, (words-at (failureWords (v .failure)) (failure-small (v .failure) (f .failure)) 2, (words-at (failureWords (v .failure)) (failure-small (v .failure) (f .failure)) 3, (words-at (closingWords (v .closing)) (closing-small (v .closing) (f .closing)) 0, tt))))))))))))))))))))))))))))))))
+ledger-small v f = (f .ranges, (f .lends, (bit-small (v .started), (f .original, (words-at (wireWords (v .wire)) (wire-small (v .wire) (f .wire)) 0, (words-at (wireWords (v .wire)) (wire-small (v .wire) (f .wire)) 1, (words-at (wireWords (v .wire)) (wire-small (v .wire) (f .wire)) 2, (words-at (wireWords (v .wire)) (wire-small (v .wire) (f .wire)) 3, (words-at (wireWords (v .wire)) (wire-small (v .wire) (f .wire)) 4, (words-at (wireWords (v .wire)) (wire-small (v .wire) (f .wire)) 5, (words-at (wireWords (v .wire)) (wire-small (v .wire) (f .wire)) 6, (words-at (failureWords (v .failure)) (failure-small (v .failure) (f .failure)) 0, (words-at (failureWords (v .failure)) (failure-small (v .failure) (f .failure)) 1, (words-at (failureWords (v .failure)) (failure-small (v .failure) (f .failure)) 2, (words-at (failureWords (v .failure)) (failure-small (v .failure) (f .failure)) 3, (words-at (closingWords (v .closing)) (closing-small (v .closing) (f .closing)) 0, tt))))))))))))))))

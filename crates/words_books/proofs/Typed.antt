@@ -6,22 +6,17 @@ use Rattle.words_task.proofs.Typed.{catas-typed}
 use Rattle.pci.specs.declared.Refusal.{Refusal}
 use Rattle.session.specs.declared.Failure.{Failure}
 use Rattle.session.specs.declared.Closing.{Closing}
-use Rattle.dma.specs.declared.Buffer.{Buffer}
-use Rattle.session.specs.declared.Hold.{Hold}
-use Rattle.session.specs.declared.Held.{Held}
+use Rattle.session.specs.declared.Slot.{Slot}
 use Rattle.session.specs.declared.Wire.{Wire}
 use Rattle.pci.specs.declared.Refusal.the-variants as refusal
 use Rattle.session.specs.declared.Failure.the-variants as failure
 use Rattle.session.specs.declared.Closing.the-variants as closing
-use Rattle.session.specs.declared.Hold.the-variants as hold
 use Rattle.pci.proofs.Refusal.{the-row as refusal-row}
 use Rattle.session.proofs.Failure.{the-row as failure-row}
 use Rattle.session.proofs.Closing.{the-row as closing-row}
-use Rattle.dma.proofs.Buffer.{the-row as buffer-row}
-use Rattle.session.proofs.Hold.{the-row as hold-row}
-use Rattle.session.proofs.Held.{the-row as held-row}
+use Rattle.session.proofs.Slot.{the-row as slot-row}
 use Rattle.session.proofs.Wire.{the-row as wire-row}
-use Rattle.words_books.specs.Fits.{RefusalFits, FailureFits, ClosingFits, BufferFits, HoldFits, HeldFits, WireFits}
+use Rattle.words_books.specs.Fits.{RefusalFits, FailureFits, ClosingFits, SlotFits, WireFits}
 
 pub refusal-typed : (v : Refusal) (vs : List Val) → Is refusal-row v vs → RefusalFits v
 refusal-typed refusal.Attributes vs h = tt
@@ -58,23 +53,13 @@ closing-typed closing.Clean vs h = tt
 closing-typed closing.Reset vs h = tt
 closing-typed closing.Kept vs h = tt
 
-pub buffer-typed : (v : Buffer) (vs : List Val) → Is buffer-row v vs → BufferFits v
-buffer-typed v vs h = record {
-  handle = h .1 .1 .0 .1;
-  dev = h .1 .1 .1 .0 .1;
-  pages = h .1 .1 .1 .1 .0 .1;
-}
-
-pub hold-typed : (v : Hold) (vs : List Val) → Is hold-row v vs → HoldFits v
-hold-typed hold.Absent vs h = tt
-hold-typed (hold.Held x) vs h = buffer-typed x _ (h .1 .1 .1 .1 .0)
-
-pub held-typed : (v : Held) (vs : List Val) → Is held-row v vs → HeldFits v
-held-typed v vs h = record {
-  inbox = hold-typed (v .inbox) _ (h .1 .1 .0);
-  outbox = hold-typed (v .outbox) _ (h .1 .1 .1 .0);
-  fa = hold-typed (v .fa) _ (h .1 .1 .1 .1 .0);
-  aux = hold-typed (v .aux) _ (h .1 .1 .1 .1 .1 .0);
+pub slot-typed : (v : Slot) (vs : List Val) → Is slot-row v vs → SlotFits v
+slot-typed v vs h = record {
+  runs = h .1 .1 .0 .1;
+  virt = h .1 .1 .1 .0 .1;
+  handle = h .1 .1 .1 .1 .0 .1;
+  dev = h .1 .1 .1 .1 .1 .0 .1;
+  pages = h .1 .1 .1 .1 .1 .1 .0 .1;
 }
 
 pub wire-typed : (v : Wire) (vs : List Val) → Is wire-row v vs → WireFits v

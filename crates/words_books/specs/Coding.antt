@@ -1,4 +1,4 @@
--- What of the books is no array, as 32 words.
+-- What of the books is no slot, and a slot, as words.
 use Prim.Native.Nat.{ℕ, _%_}
 use mathlib.Core.List.{List, [], _∷_}
 use lib.Dec.{eqb}
@@ -11,10 +11,7 @@ use Rattle.session.specs.declared.Failure.{Failure}
 use Rattle.session.specs.declared.Failure.the-variants as fv
 use Rattle.session.specs.declared.Closing.{Closing}
 use Rattle.session.specs.declared.Closing.the-variants as cv
-use Rattle.dma.specs.declared.Buffer.{Buffer}
-use Rattle.session.specs.declared.Hold.{Hold}
-use Rattle.session.specs.declared.Hold.the-variants as hv
-use Rattle.session.specs.declared.Held.{Held}
+use Rattle.session.specs.declared.Slot.{Slot}
 use Rattle.session.specs.declared.Wire.{Wire}
 use Rattle.words_books.specs.declared.Ledger.{Ledger}
 
@@ -94,36 +91,18 @@ closingOf tag =
     pick (eqb tag 2) cv.Kept (
     cv.Clean))
 
--- a buffer
-abbrev pub bufferWords : Buffer → List ℕ
-bufferWords v = v .handle ∷ v .dev ∷ v .pages ∷ []
+-- a slot
+abbrev pub slotWords : Slot → List ℕ
+slotWords v = v .runs ∷ v .virt ∷ v .handle ∷ v .dev ∷ v .pages ∷ bitOf (v .mapped) ∷ []
 
-abbrev pub bufferOf : (a b d : ℕ) → Buffer
-bufferOf a b d = record {
-  handle = a;
-  dev = b;
-  pages = d;
-}
-
--- a buffer that is held, or none
-abbrev pub holdWords : Hold → List ℕ
-holdWords hv.Absent = 0 ∷ 0 ∷ 0 ∷ 0 ∷ []
-holdWords (hv.Held x) = 1 ∷ at (bufferWords x) 0 ∷ at (bufferWords x) 1 ∷ at (bufferWords x) 2 ∷ []
-
-abbrev pub holdOf : (tag a b d : ℕ) → Hold
-holdOf tag a b d =
-    pick (eqb tag 1) (hv.Held (bufferOf a b d)) (
-    hv.Absent)
-
-abbrev pub heldWords : Held → List ℕ
-heldWords v = at (holdWords (v .inbox)) 0 ∷ at (holdWords (v .inbox)) 1 ∷ at (holdWords (v .inbox)) 2 ∷ at (holdWords (v .inbox)) 3 ∷ at (holdWords (v .outbox)) 0 ∷ at (holdWords (v .outbox)) 1 ∷ at (holdWords (v .outbox)) 2 ∷ at (holdWords (v .outbox)) 3 ∷ at (holdWords (v .fa)) 0 ∷ at (holdWords (v .fa)) 1 ∷ at (holdWords (v .fa)) 2 ∷ at (holdWords (v .fa)) 3 ∷ at (holdWords (v .aux)) 0 ∷ at (holdWords (v .aux)) 1 ∷ at (holdWords (v .aux)) 2 ∷ at (holdWords (v .aux)) 3 ∷ []
-
-abbrev pub heldOf : (a b d e f g h i j k l m n o p q : ℕ) → Held
-heldOf a b d e f g h i j k l m n o p q = record {
-  inbox = holdOf a b d e;
-  outbox = holdOf f g h i;
-  fa = holdOf j k l m;
-  aux = holdOf n o p q;
+abbrev pub slotOf : List ℕ → Slot
+slotOf w = record {
+  runs = at w 0;
+  virt = at w 1;
+  handle = at w 2;
+  dev = at w 3;
+  pages = at w 4;
+  mapped = eqb (at w 5) 1;
 }
 
 -- how the command register stands
@@ -140,12 +119,12 @@ wireOf a b d e f g h = record {
 }
 
 -- the words of a ledger from those of its parts
-abbrev pub ledgerRow : Ledger → (wire held failure closing : List ℕ) → List ℕ
-ledgerRow v wire held failure closing = v .ranges ∷ v .lends ∷ bitOf (v .started) ∷ v .original ∷ at wire 0 ∷ at wire 1 ∷ at wire 2 ∷ at wire 3 ∷ at wire 4 ∷ at wire 5 ∷ at wire 6 ∷ at held 0 ∷ at held 1 ∷ at held 2 ∷ at held 3 ∷ at held 4 ∷ at held 5 ∷ at held 6 ∷ at held 7 ∷ at held 8 ∷ at held 9 ∷ at held 10 ∷ at held 11 ∷ at held 12 ∷ at held 13 ∷ at held 14 ∷ at held 15 ∷ at failure 0 ∷ at failure 1 ∷ at failure 2 ∷ at failure 3 ∷ at closing 0 ∷ []
+abbrev pub ledgerRow : Ledger → (wire failure closing : List ℕ) → List ℕ
+ledgerRow v wire failure closing = v .ranges ∷ v .lends ∷ bitOf (v .started) ∷ v .original ∷ at wire 0 ∷ at wire 1 ∷ at wire 2 ∷ at wire 3 ∷ at wire 4 ∷ at wire 5 ∷ at wire 6 ∷ at failure 0 ∷ at failure 1 ∷ at failure 2 ∷ at failure 3 ∷ at closing 0 ∷ []
 
 -- the ledger: the two counts first
 abbrev pub ledgerWords : Ledger → List ℕ
-ledgerWords v = ledgerRow v (wireWords (v .wire)) (heldWords (v .held)) (failureWords (v .failure)) (closingWords (v .closing))
+ledgerWords v = ledgerRow v (wireWords (v .wire)) (failureWords (v .failure)) (closingWords (v .closing))
 
 abbrev pub ledgerOf : List ℕ → Ledger
 ledgerOf w = record {
@@ -154,7 +133,6 @@ ledgerOf w = record {
   started = eqb (at w 2) 1;
   original = at w 3;
   wire = wireOf (at w 4) (at w 5) (at w 6) (at w 7) (at w 8) (at w 9) (at w 10);
-  held = heldOf (at w 11) (at w 12) (at w 13) (at w 14) (at w 15) (at w 16) (at w 17) (at w 18) (at w 19) (at w 20) (at w 21) (at w 22) (at w 23) (at w 24) (at w 25) (at w 26);
-  failure = failureOf (at w 27) (at w 28) (at w 29) (at w 30);
-  closing = closingOf (at w 31);
+  failure = failureOf (at w 11) (at w 12) (at w 13) (at w 14);
+  closing = closingOf (at w 15);
 }

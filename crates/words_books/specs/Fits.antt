@@ -7,10 +7,7 @@ use Rattle.session.specs.declared.Failure.{Failure}
 use Rattle.session.specs.declared.Failure.the-variants as fv
 use Rattle.session.specs.declared.Closing.{Closing}
 use Rattle.session.specs.declared.Closing.the-variants as cv
-use Rattle.dma.specs.declared.Buffer.{Buffer}
-use Rattle.session.specs.declared.Hold.{Hold}
-use Rattle.session.specs.declared.Hold.the-variants as hv
-use Rattle.session.specs.declared.Held.{Held}
+use Rattle.session.specs.declared.Slot.{Slot}
 use Rattle.session.specs.declared.Wire.{Wire}
 use Rattle.words_books.specs.declared.Ledger.{Ledger}
 
@@ -49,20 +46,12 @@ ClosingFits cv.Clean = Unit {0}
 ClosingFits cv.Reset = Unit {0}
 ClosingFits cv.Kept = Unit {0}
 
-pub record BufferFits (v : Buffer) : Type 0 where
+pub record SlotFits (v : Slot) : Type 0 where
+  pub runs : v .runs < 2 ^ 64
+  pub virt : v .virt < 2 ^ 64
   pub handle : v .handle < 2 ^ 64
   pub dev : v .dev < 2 ^ 64
   pub pages : v .pages < 2 ^ 64
-
-abbrev pub HoldFits : Hold → Type 0
-HoldFits hv.Absent = Unit {0}
-HoldFits (hv.Held x) = BufferFits x
-
-pub record HeldFits (v : Held) : Type 0 where
-  pub inbox : HoldFits (v .inbox)
-  pub outbox : HoldFits (v .outbox)
-  pub fa : HoldFits (v .fa)
-  pub aux : HoldFits (v .aux)
 
 pub record WireFits (v : Wire) : Type 0 where
   pub catas : CatasFits (v .catas)
@@ -72,6 +61,5 @@ pub record LedgerFits (v : Ledger) : Type 0 where
   pub lends : v .lends < 2 ^ 64
   pub original : v .original < 2 ^ 64
   pub wire : WireFits (v .wire)
-  pub held : HeldFits (v .held)
   pub failure : FailureFits (v .failure)
   pub closing : ClosingFits (v .closing)

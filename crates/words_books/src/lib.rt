@@ -1,23 +1,20 @@
-// What of the books is no array, as 32 words.
-use dma::Buffer;
+// What of the books is no slot, and a slot, as words.
 use pci::Refusal;
 use session::Closing;
 use session::Failure;
-use session::Held;
-use session::Hold;
+use session::Slot;
 use session::Wire;
 ghost use mathlib.Core.Path.{_≡_};
-ghost use Rattle.words_books.specs.Coding.{refusalWords, refusalOf, failureWords, failureOf, closingWords, closingOf, bufferWords, bufferOf};
-ghost use Rattle.words_books.specs.Coding.{holdWords, holdOf, heldWords, heldOf, wireWords, wireOf, ledgerRow, ledgerWords, ledgerOf};
+ghost use Rattle.words_books.specs.Coding.{refusalWords, refusalOf, failureWords, failureOf, closingWords, closingOf, slotWords, slotOf};
+ghost use Rattle.words_books.specs.Coding.{wireWords, wireOf, ledgerRow, ledgerWords, ledgerOf};
 
-// What of the session is no array and neither the task nor the stage, nor what the card has said.
+// What of the session is no slot and neither the task nor the stage, nor what the card has said.
 pub struct Ledger {
     pub ranges: usize,
     pub lends: usize,
     pub started: bool,
     pub original: u64,
     pub wire: Wire,
-    pub held: Held,
     pub failure: Failure,
     pub closing: Closing,
 }
@@ -128,101 +125,30 @@ fn closing_from(tag: u64) -> Closing
     }
 }
 
-// A buffer.
-pub fn buffer_words(v: Buffer) -> [u64; 3]
-    ensures { λ r. ⌜ r ≡ bufferWords v ⌝ }
+// A slot.
+pub fn slot_words(v: Slot) -> [u64; words::SLOT]
+    ensures { λ r. ⌜ r ≡ slotWords v ⌝ }
 {
-    [v.handle, v.dev, v.pages]
-}
-
-pub fn buffer_from(a: u64, b: u64, d: u64) -> Buffer
-    ensures { λ r. ⌜ r ≡ bufferOf a b d ⌝ }
-{
-    Buffer {
-        handle: a,
-        dev: b,
-        pages: d,
-    }
-}
-
-// A buffer that is held, or none.
-fn hold_words(v: Hold) -> [u64; 4]
-    ensures { λ r. ⌜ r ≡ holdWords v ⌝ }
-{
-    match v {
-        Hold::Absent => [0, 0, 0, 0],
-        Hold::Held(x) => {
-            let w = buffer_words(x);
-            [1, w[0], w[1], w[2]]
-        }
-    }
-}
-
-fn hold_from(tag: u64, a: u64, b: u64, d: u64) -> Hold
-    ensures { λ r. ⌜ r ≡ holdOf tag a b d ⌝ }
-{
-    match tag {
-        1 => Hold::Held(buffer_from(a, b, d)),
-        _ => Hold::Absent,
-    }
-}
-
-fn held_words(v: Held) -> [u64; 16]
-    ensures { λ r. ⌜ r ≡ heldWords v ⌝ }
-{
-    let inbox = v.inbox;
-    let inbox_w = hold_words(inbox);
-    let outbox = v.outbox;
-    let outbox_w = hold_words(outbox);
-    let fa = v.fa;
-    let fa_w = hold_words(fa);
-    let aux = v.aux;
-    let aux_w = hold_words(aux);
     [
-        inbox_w[0],
-        inbox_w[1],
-        inbox_w[2],
-        inbox_w[3],
-        outbox_w[0],
-        outbox_w[1],
-        outbox_w[2],
-        outbox_w[3],
-        fa_w[0],
-        fa_w[1],
-        fa_w[2],
-        fa_w[3],
-        aux_w[0],
-        aux_w[1],
-        aux_w[2],
-        aux_w[3],
+        v.runs,
+        v.virt,
+        v.handle,
+        v.dev,
+        v.pages,
+        words::bit(v.mapped),
     ]
 }
 
-fn held_from(
-    a: u64,
-    b: u64,
-    d: u64,
-    e: u64,
-    f: u64,
-    g: u64,
-    h: u64,
-    i: u64,
-    j: u64,
-    k: u64,
-    l: u64,
-    m: u64,
-    n: u64,
-    o: u64,
-    p: u64,
-    q: u64,
-) -> Held
-    ensures { λ r. ⌜ r ≡ heldOf a b d e f g h i j k l m n o p q ⌝ }
+pub fn slot_from(w: [u64; words::SLOT]) -> Slot
+    ensures { λ r. ⌜ r ≡ slotOf w ⌝ }
 {
-    Held {
-        inbox: hold_from(a, b, d, e),
-        outbox: hold_from(f, g, h, i),
-        fa: hold_from(j, k, l, m),
-        aux: hold_from(n, o, p, q),
+    Slot {
+        runs: w[0],
+        virt: w[1],
+        handle: w[2],
+        dev: w[3],
+        pages: w[4],
+        mapped: words::flag(w[5]),
     }
 }
 
@@ -259,11 +185,10 @@ fn wire_from(a: u64, b: u64, d: u64, e: u64, f: u64, g: u64, h: u64) -> Wire
 fn ledger_row(
     v: Ledger,
     wire: [u64; 7],
-    held: [u64; 16],
     failure: [u64; 4],
     closing: [u64; 1],
-) -> [u64; 32]
-    ensures { λ r. ⌜ r ≡ ledgerRow v wire held failure closing ⌝ }
+) -> [u64; words::LEDGER]
+    ensures { λ r. ⌜ r ≡ ledgerRow v wire failure closing ⌝ }
 {
     [
         words::long(v.ranges),
@@ -277,22 +202,6 @@ fn ledger_row(
         wire[4],
         wire[5],
         wire[6],
-        held[0],
-        held[1],
-        held[2],
-        held[3],
-        held[4],
-        held[5],
-        held[6],
-        held[7],
-        held[8],
-        held[9],
-        held[10],
-        held[11],
-        held[12],
-        held[13],
-        held[14],
-        held[15],
         failure[0],
         failure[1],
         failure[2],
@@ -302,21 +211,19 @@ fn ledger_row(
 }
 
 // The ledger: the two counts first.
-pub fn ledger_words(v: Ledger) -> [u64; 32]
+pub fn ledger_words(v: Ledger) -> [u64; words::LEDGER]
     ensures { λ r. ⌜ r ≡ ledgerWords v ⌝ }
 {
     let wire = v.wire;
     let wire_w = wire_words(wire);
-    let held = v.held;
-    let held_w = held_words(held);
     let failure = v.failure;
     let failure_w = failure_words(failure);
     let closing = v.closing;
     let closing_w = closing_words(closing);
-    ledger_row(v, wire_w, held_w, failure_w, closing_w)
+    ledger_row(v, wire_w, failure_w, closing_w)
 }
 
-pub fn ledger_from(w: [u64; 32]) -> Ledger
+pub fn ledger_from(w: [u64; words::LEDGER]) -> Ledger
     ensures { λ r. ⌜ r ≡ ledgerOf w ⌝ }
 {
     Ledger {
@@ -325,25 +232,7 @@ pub fn ledger_from(w: [u64; 32]) -> Ledger
         started: words::flag(w[2]),
         original: w[3],
         wire: wire_from(w[4], w[5], w[6], w[7], w[8], w[9], w[10]),
-        held: held_from(
-            w[11],
-            w[12],
-            w[13],
-            w[14],
-            w[15],
-            w[16],
-            w[17],
-            w[18],
-            w[19],
-            w[20],
-            w[21],
-            w[22],
-            w[23],
-            w[24],
-            w[25],
-            w[26],
-        ),
-        failure: failure_from(w[27], w[28], w[29], w[30]),
-        closing: closing_from(w[31]),
+        failure: failure_from(w[11], w[12], w[13], w[14]),
+        closing: closing_from(w[15]),
     }
 }

@@ -1,4 +1,4 @@
-// What the card and the host have said, as words: the capabilities 32, a port 17, the rest 8.
+// What the card and the host have said, as words: the capabilities, a port, the rest.
 use bars::How;
 use bars::Pick;
 use bars::Size;
@@ -101,7 +101,7 @@ fn func_from(a: u64, b: u64, d: u64) -> FuncInfo
 }
 
 // The UAR BAR, what QUERY_FUNC said, and the revision.
-pub fn told_words(v: Told) -> [u64; 8]
+pub fn told_words(v: Told) -> [u64; words::TOLD]
     ensures { λ r. ⌜ r ≡ toldWords v ⌝ }
 {
     let uar = v.uar;
@@ -120,7 +120,7 @@ pub fn told_words(v: Told) -> [u64; 8]
     ]
 }
 
-pub fn told_from(w: [u64; 8]) -> Told
+pub fn told_from(w: [u64; words::TOLD]) -> Told
     ensures { λ r. ⌜ r ≡ toldOf w ⌝ }
 {
     Told {
@@ -131,7 +131,7 @@ pub fn told_from(w: [u64; 8]) -> Told
 }
 
 // The capabilities.
-pub fn cap_words(v: DevCap) -> [u64; 32]
+pub fn cap_words(v: DevCap) -> [u64; words::CAP]
     ensures { λ r. ⌜ r ≡ capWords v ⌝ }
 {
     let entry = v.entry;
@@ -172,7 +172,7 @@ pub fn cap_words(v: DevCap) -> [u64; 32]
 }
 
 // The entry sizes by table index.
-fn entry_from(w: [u64; 32]) -> [u16; 11]
+fn entry_from(w: [u64; words::CAP]) -> [u16; 11]
     ensures { λ r. ⌜ r ≡ entryOf w ⌝ }
 {
     [
@@ -190,7 +190,7 @@ fn entry_from(w: [u64; 32]) -> [u16; 11]
     ]
 }
 
-pub fn cap_from(w: [u64; 32]) -> DevCap
+pub fn cap_from(w: [u64; words::CAP]) -> DevCap
     ensures { λ r. ⌜ r ≡ capOf w ⌝ }
 {
     DevCap {
@@ -220,7 +220,7 @@ pub fn cap_from(w: [u64; 32]) -> DevCap
 }
 
 // A port.
-pub fn port_words(v: PortInfo) -> [u64; 17]
+pub fn port_words(v: PortInfo) -> [u64; words::PORT]
     ensures { λ r. ⌜ r ≡ portWords v ⌝ }
 {
     let mac = v.mac;
@@ -245,7 +245,7 @@ pub fn port_words(v: PortInfo) -> [u64; 17]
     ]
 }
 
-pub fn port_from(w: [u64; 17]) -> PortInfo
+pub fn port_from(w: [u64; words::PORT]) -> PortInfo
     ensures { λ r. ⌜ r ≡ portOf w ⌝ }
 {
     PortInfo {

@@ -1,113 +1,160 @@
--- The parts of a session's words, each in its place.
-use Prim.Native.Nat.{ℕ, _+_, _≤_}
-use mathlib.Core.Bool.{true}
+-- The parts of a session's words, each in its place: the words stand, and stand for that part of the session.
+use Prim.Native.Nat.{ℕ, _+_, _*_, _≤_}
+use mathlib.Core.Bool.{Bool, true, false}
 use mathlib.Core.Path.{_≡_, refl, ap, sym, _∙_}
-use mathlib.Core.List.{List, _++_}
+use mathlib.Core.List.{List, []}
 use native.Mathlib.Omega.{arith}
-use borrow.Author.Tests.{le-leb, le-ltb}
-use lib.ListN.{length, length-append}
-use Rattle.words.specs.Words.{wordsIn, flat, rowsIn}
-use Rattle.words.proofs.Laws.{split, words-are, length-flat, rows-read}
-use Rattle.words_task.specs.Coding.{taskWords}
+use borrow.Author.Tests.{le-leb, le-ltb, ltb-false, leb-true}
+use lib.Dec.{ltb, leb}
+use lib.ListN.{length}
+use Rattle.fields.specs.Outcome.{Outcome, value, refused, pick}
+use Rattle.fields.proofs.Outcomes.{same-value, never-refused, past}
+use Rattle.words.specs.Places.{TASK, STAGE, LEDGER, TOLD, CAP, PORT, RESET, FIND, SLOT, SLOTS, taskAt, stageAt, ledgerAt, toldAt, capAt}
+use Rattle.words.specs.Places.{port1At, port2At, resetAt, findAt, slotsAt, stateBytes}
+use Rattle.words.specs.Words.{wordsIn, sameWords, flat, rowsIn}
+use Rattle.words.proofs.Laws.{same-words, words-are, length-flat, rows-count}
+use Rattle.words_task.specs.Coding.{taskWords, taskOf}
 use Rattle.words_task.proofs.Trip.{task-length}
-use Rattle.words_stage.specs.Coding.{stageWords}
+use Rattle.words_stage.specs.Coding.{stageWords, stageOf}
 use Rattle.words_stage.proofs.Trip.{stage-length}
-use Rattle.words_books.specs.Coding.{ledgerWords, bufferWords}
-use Rattle.words_info.specs.Coding.{toldWords, capWords, portWords}
-use Rattle.words_beside.specs.Coding.{resetWords, findWords}
-use Rattle.words_session.specs.Image.{ledgerFor, toldFor, icmWords, icmOf, bufferIn, standWords, infoWords, tailWords, behindWords, sessionWords, stands}
-use Rattle.words_session.proofs.Laws.{stand-length, icm-length}
-use Rattle.dma.specs.declared.Buffer.{Buffer}
+use Rattle.words_books.specs.Coding.{ledgerWords, ledgerOf, slotWords, slotOf}
+use Rattle.words_books.specs.declared.Ledger.{Ledger}
+use Rattle.words_info.specs.Coding.{toldWords, toldOf, capWords, capOf, portWords, portOf}
+use Rattle.words_info.specs.declared.Told.{Told}
+use Rattle.words_beside.specs.Coding.{resetWords, resetOf, findWords, findOf}
+use Rattle.behind.specs.Behind.{behindFrom, flagsStand}
+use Rattle.words_session.specs.Image.{coreOf, behindOf, ledgerFor, toldFor, coreFrom, coreIn, sessionIn, countsFit, headStands, tailStands, behindStands, stands, decodeOf}
+use Rattle.words_session.proofs.Laws.{known}
+use Rattle.session.specs.Core.{full}
+use Rattle.session.specs.declared.Slot.{Slot}
 use Rattle.session.specs.declared.Session.{Session}
+use Rattle.words_laws.proofs.Rows.{pick-true, flags-words, words-flags}
 
--- the words of the session stand in the bytes, part by part
+-- all the words of the slots
+abbrev pub ROWS : ℕ
+ROWS = SLOTS * SLOT
+
+-- one part: its words stand from word k on, and stand for it
+abbrev pub Part : {A : Type 0} → (A → List ℕ) → (List ℕ → A) → (k n : ℕ) → List ℕ → A → Type 0
+Part f g k n xs v = (wordsIn xs k n ≡ f v) × (g (wordsIn xs k n) ≡ v)
+
 pub record Parts (xs : List ℕ) (s : Session) : Type 0 where
-  pub task : wordsIn xs 0 13 ≡ taskWords (s .work .task)
-  pub stage : wordsIn xs 13 8 ≡ stageWords (s .stage)
-  pub ledger : wordsIn xs 21 32 ≡ ledgerWords (ledgerFor s)
-  pub told : wordsIn xs 53 8 ≡ toldWords (toldFor (s .info))
-  pub cap : wordsIn xs 61 32 ≡ capWords (s .info .cap)
-  pub port1 : wordsIn xs 93 17 ≡ portWords (s .info .port1)
-  pub port2 : wordsIn xs 110 17 ≡ portWords (s .info .port2)
-  pub reset : wordsIn xs 127 24 ≡ resetWords (s .work .reset)
-  pub find : wordsIn xs 151 18 ≡ findWords (s .work .find)
-  pub icm : rowsIn icmOf 4 xs 169 14 ≡ s .books .lists .icm
-  pub lent : rowsIn bufferIn 3 xs 225 64 ≡ s .books .lists .lent
+  pub enough : stateBytes ≤ length xs
+  pub ranges : s .books .lists .ranges ≤ 14
+  pub lends : s .books .lists .lends ≤ 64
+  pub task : Part taskWords taskOf taskAt TASK xs (s .work .task)
+  pub stage : Part stageWords stageOf stageAt STAGE xs (s .stage)
+  pub ledger : Part ledgerWords ledgerOf ledgerAt LEDGER xs (ledgerFor (coreOf s))
+  pub told : Part toldWords toldOf toldAt TOLD xs (toldFor (coreOf s))
+  pub cap : Part capWords capOf capAt CAP xs (s .info .cap)
+  pub port1 : Part portWords portOf port1At PORT xs (s .info .port1)
+  pub port2 : Part portWords portOf port2At PORT xs (s .info .port2)
+  pub reset : Part resetWords resetOf resetAt RESET xs (s .work .reset)
+  pub find : Part findWords findOf findAt FIND xs (s .work .find)
+  pub slots : wordsIn xs slotsAt ROWS ≡ flat slotWords (s .books .lists .slots)
+  pub rows : rowsIn slotOf SLOT xs slotsAt SLOTS ≡ s .books .lists .slots
 
-pub lent-words : (rs : List Buffer) → length rs ≡ 64 → length (flat bufferWords rs) ≡ 192
-lent-words rs h = let e = length-flat bufferIn bufferWords 3 (λ r. refl) rs in omega arith
+-- as many slots as were read
+pub slots-many : (xs : List ℕ) (s : Session) → Parts xs s → length (s .books .lists .slots) ≡ SLOTS
+slots-many xs s p = ap (λ (l : List Slot). length l) (sym (p .rows)) ∙ rows-count slotOf slotWords SLOT (λ x. refl) xs slotsAt SLOTS
 
--- all the words behind the task
-pub behind-length : (s : Session) → length (s .books .lists .icm) ≡ 14 → length (s .books .lists .lent) ≡ 64 → length (behindWords s) ≡ 404
-behind-length s hi hl =
-    let i = s .books .lists .icm in
-    let l = s .books .lists .lent in
-    let a = length-append (standWords s) (infoWords (s .info) ++ tailWords (s .work) i l) in
-    let b = length-append (infoWords (s .info)) (tailWords (s .work) i l) in
-    let d = length-append (resetWords (s .work .reset)) (findWords (s .work .find) ++ (flat icmWords i ++ flat bufferWords l)) in
-    let e = length-append (findWords (s .work .find)) (flat icmWords i ++ flat bufferWords l) in
-    let f = length-append (flat icmWords i) (flat bufferWords l) in
-    let g = icm-length i hi in
-    let h = lent-words l hl in
-    let k = stand-length s in
-    omega arith
+pub slots-words : (l : List Slot) → length l ≡ SLOTS → length (flat slotWords l) ≡ ROWS
+slots-words l h = let e = length-flat slotOf slotWords SLOT (λ r. refl) l in omega arith
 
-pub session-length : (s : Session) → length (s .books .lists .icm) ≡ 14 → length (s .books .lists .lent) ≡ 64 → length (sessionWords s) ≡ 417
-session-length s hi hl =
-    let a = length-append (taskWords (s .work .task)) (behindWords s) in
-    let b = task-length (s .work .task) in
-    let d = behind-length s hi hl in
-    omega arith
+-- the session that the words stand for
+pub parts-read : (xs : List ℕ) (s : Session) → Parts xs s → sessionIn xs ≡ s
+parts-read xs s p =
+    ap (λ (l : Ledger). full (coreFrom xs l (toldOf (wordsIn xs toldAt TOLD))) (behindFrom xs)) (p .ledger .1)
+    ∙ ap (λ (t : Told). full (coreFrom xs (ledgerFor (coreOf s)) t) (behindFrom xs)) (p .told .1)
+    ∙ rw (p .task .1, p .stage .1, p .cap .1, p .port1 .1, p .port2 .1, p .reset .1, p .find .1, p .rows) refl
 
--- words of known number, and those behind them
-parted : (s : List ℕ) (k n : ℕ) (a b : List ℕ) → length a ≡ n → wordsIn s k (length (a ++ b)) ≡ a ++ b → (wordsIn s k n ≡ a) × (wordsIn s (k + n) (length b) ≡ b)
-parted s k n a b l e = let q = split s k a b e in (ap (wordsIn s k) (sym l) ∙ q .0, ap (λ (m : ℕ). wordsIn s (k + m) (length b)) (sym l) ∙ q .1)
-
--- words that stand one after the other stand part by part
-pub apart : (xs : List ℕ) (s : Session) → length (s .books .lists .icm) ≡ 14 → length (s .books .lists .lent) ≡ 64
-    → wordsIn xs 0 (length (sessionWords s)) ≡ sessionWords s → Parts xs s
-apart xs s hi hl e =
-    let i = s .books .lists .icm in
-    let l = s .books .lists .lent in
-    let tail = tailWords (s .work) i l in
-    let q1 = parted xs 0 13 (taskWords (s .work .task)) (behindWords s) (task-length (s .work .task)) e in
-    let q2 = parted xs 13 40 (standWords s) (infoWords (s .info) ++ tail) (stand-length s) (q1 .1) in
-    let q2a = parted xs 13 8 (stageWords (s .stage)) (ledgerWords (ledgerFor s)) (stage-length (s .stage)) (ap (wordsIn xs 13) (stand-length s) ∙ q2 .0) in
-    let q3 = parted xs 53 74 (infoWords (s .info)) tail refl (q2 .1) in
-    let q3a = parted xs 53 8 (toldWords (toldFor (s .info))) (capWords (s .info .cap) ++ (portWords (s .info .port1) ++ portWords (s .info .port2))) refl (q3 .0) in
-    let q3b = parted xs 61 32 (capWords (s .info .cap)) (portWords (s .info .port1) ++ portWords (s .info .port2)) refl (q3a .1) in
-    let q3c = parted xs 93 17 (portWords (s .info .port1)) (portWords (s .info .port2)) refl (q3b .1) in
-    let q4 = parted xs 127 24 (resetWords (s .work .reset)) (findWords (s .work .find) ++ (flat icmWords i ++ flat bufferWords l)) refl (q3 .1) in
-    let q5 = parted xs 151 18 (findWords (s .work .find)) (flat icmWords i ++ flat bufferWords l) refl (q4 .1) in
-    let q6 = split xs 169 (flat icmWords i) (flat bufferWords l) (q5 .1) in
-    let at225 : wordsIn xs 225 (length (flat bufferWords l)) ≡ flat bufferWords l = ap (λ (m : ℕ). wordsIn xs (169 + m) (length (flat bufferWords l))) (sym (icm-length i hi)) ∙ q6 .1 in
-    record {
-      task = q1 .0;
-      stage = q2a .0;
-      ledger = q2a .1;
-      told = q3a .0;
-      cap = q3b .0;
-      port1 = q3c .0;
-      port2 = q3c .1;
-      reset = q4 .0;
-      find = q5 .0;
-      icm = ap (rowsIn icmOf 4 xs 169) (sym hi) ∙ rows-read icmOf icmWords 4 (λ r. refl) (λ r. refl) xs 169 i (q6 .0);
-      lent = ap (rowsIn bufferIn 3 xs 225) (sym hl) ∙ rows-read bufferIn bufferWords 3 (λ r. refl) (λ r. refl) xs 225 l at225;
-    }
+all-true : (a b : Bool) → a ≡ true → b ≡ true → pick a b false ≡ true
+all-true a b e d = ap (λ (x : Bool). pick x b false) e ∙ d
 
 -- then the session's words are found to stand there
-pub parts-stand : (xs : List ℕ) (s : Session) → Parts xs s → s .books .lists .ranges ≤ 14 → s .books .lists .lends ≤ 64 → stands xs s ≡ true
-parts-stand xs s p r l =
-    rw (
-      le-ltb 14 (s .books .lists .ranges) r,
-      le-leb (s .books .lists .lends) 64 l,
-      words-are xs 0 (taskWords (s .work .task)) (ap (wordsIn xs 0) (task-length (s .work .task)) ∙ p .task),
-      words-are xs 13 (stageWords (s .stage)) (ap (wordsIn xs 13) (stage-length (s .stage)) ∙ p .stage),
-      words-are xs 21 (ledgerWords (ledgerFor s)) (p .ledger),
-      words-are xs 53 (toldWords (toldFor (s .info))) (p .told),
-      words-are xs 61 (capWords (s .info .cap)) (p .cap),
-      words-are xs 93 (portWords (s .info .port1)) (p .port1),
-      words-are xs 110 (portWords (s .info .port2)) (p .port2),
-      words-are xs 127 (resetWords (s .work .reset)) (p .reset),
-      words-are xs 151 (findWords (s .work .find)) (p .find),
-    )
+pub parts-stand : (xs : List ℕ) (s : Session) → Parts xs s → stands xs s ≡ true
+parts-stand xs s p =
+    let c = coreOf s in
+    let l = s .books .lists .slots in
+    let n = slots-many xs s p in
+    let counts : countsFit c ≡ true = rw (le-ltb 14 (c .ranges) (p .ranges)) (le-leb (c .lends) 64 (p .lends)) in
+    let flags : flagsStand xs slotsAt SLOTS ≡ true = ap (flagsStand xs slotsAt) (sym n) ∙ words-flags xs slotsAt l (ap (wordsIn xs slotsAt) (slots-words l n) ∙ p .slots) in
+    let task = words-are xs taskAt (taskWords (c .task)) (ap (wordsIn xs taskAt) (task-length (c .task)) ∙ p .task .0) in
+    let stage = words-are xs stageAt (stageWords (c .stage)) (ap (wordsIn xs stageAt) (stage-length (c .stage)) ∙ p .stage .0) in
+    let ledger = words-are xs ledgerAt (ledgerWords (ledgerFor c)) (p .ledger .0) in
+    let told = words-are xs toldAt (toldWords (toldFor c)) (p .told .0) in
+    let cap = words-are xs capAt (capWords (s .info .cap)) (p .cap .0) in
+    let port1 = words-are xs port1At (portWords (s .info .port1)) (p .port1 .0) in
+    let port2 = words-are xs port2At (portWords (s .info .port2)) (p .port2 .0) in
+    let reset = words-are xs resetAt (resetWords (s .work .reset)) (p .reset .0) in
+    let find = words-are xs findAt (findWords (s .work .find)) (p .find .0) in
+    let head : headStands xs c ≡ true = all-true _ _ counts (all-true _ _ task (all-true _ _ stage (all-true _ _ ledger told))) in
+    let tail : tailStands xs (behindOf s) ≡ true = all-true _ _ reset (all-true _ _ find flags) in
+    let rest : behindStands xs (behindOf s) ≡ true = all-true _ _ cap (all-true _ _ port1 (all-true _ _ port2 tail)) in
+    all-true (headStands xs c) (behindStands xs (behindOf s)) head rest
+
+-- and so it is read
+pub parts-decode : (xs : List ℕ) (s : Session) → Parts xs s → decodeOf xs ≡ value s
+parts-decode xs s p = known xs (parts-read xs s p) (parts-stand xs s p) (p .enough)
+
+held : (b : Bool) (x s : Session) → pick b (value x) (refused 20 []) ≡ value s → (b ≡ true) × (x ≡ s)
+held true x s e = (refl, same-value e)
+held false x s e = absurd (never-refused e)
+
+-- what a session that was read says of the bytes
+pub record Given (xs : List ℕ) (s : Session) : Type 0 where
+  pub enough : stateBytes ≤ length xs
+  pub reads : sessionIn xs ≡ s
+  pub stand : stands xs s ≡ true
+
+pub given : (xs : List ℕ) (s : Session) → decodeOf xs ≡ value s → Given xs s
+given xs s e =
+    let q = past (ltb (length xs) stateBytes) 21 [] (pick (stands xs (sessionIn xs)) (value (sessionIn xs)) (refused 20 [])) s e in
+    let r = held (stands xs (sessionIn xs)) (sessionIn xs) s (q .1) in
+    record { enough = ltb-false (length xs) stateBytes (q .0); reads = r .1; stand = ap (stands xs) (sym (r .1)) ∙ r .0 }
+
+not-so : false ≡ true → ⊥
+not-so h = let z : _≡_ {A = ℕ} 0 1 = ap (λ (x : Bool). pick x 1 0) h in omega arith
+
+count-true : (r l : ℕ) → pick (ltb 14 r) false (leb l 64) ≡ true → (r ≤ 14) × (l ≤ 64)
+count-true r l e = by (ltb 14 r) refl e
+  where
+    by : (b : Bool) → ltb 14 r ≡ b → pick b false (leb l 64) ≡ true → (r ≤ 14) × (l ≤ 64)
+    by false d h = (ltb-false 14 r d, leb-true l 64 h)
+    by true d h = absurd (not-so h)
+
+-- A session that was read stands there, part by part.
+pub decode-parts : (xs : List ℕ) (s : Session) → decodeOf xs ≡ value s → Parts xs s
+decode-parts xs s e =
+    let g = given xs s e in
+    let r = g .reads in
+    let c = coreOf s in
+    let b = behindOf s in
+    let q = pick-true (headStands xs c) (behindStands xs b) (g .stand) in
+    let h1 = pick-true (countsFit c) _ (q .0) in
+    let h2 = pick-true (sameWords xs taskAt (taskWords (c .task))) _ (h1 .1) in
+    let h3 = pick-true (sameWords xs stageAt (stageWords (c .stage))) _ (h2 .1) in
+    let h4 = pick-true (sameWords xs ledgerAt (ledgerWords (ledgerFor c))) (sameWords xs toldAt (toldWords (toldFor c))) (h3 .1) in
+    let b1 = pick-true (sameWords xs capAt (capWords (b .cap))) _ (q .1) in
+    let b2 = pick-true (sameWords xs port1At (portWords (b .port1))) _ (b1 .1) in
+    let b3 = pick-true (sameWords xs port2At (portWords (b .port2))) (tailStands xs b) (b2 .1) in
+    let t1 = pick-true (sameWords xs resetAt (resetWords (b .reset))) _ (b3 .1) in
+    let t2 = pick-true (sameWords xs findAt (findWords (b .find))) (flagsStand xs slotsAt SLOTS) (t1 .1) in
+    let n = count-true (c .ranges) (c .lends) (h1 .0) in
+    let rows : rowsIn slotOf SLOT xs slotsAt SLOTS ≡ s .books .lists .slots = ap (λ (z : Session). z .books .lists .slots) r in
+    record {
+      enough = g .enough;
+      ranges = n .0;
+      lends = n .1;
+      task = (ap (wordsIn xs taskAt) (sym (task-length (c .task))) ∙ same-words xs taskAt (taskWords (c .task)) (h2 .0), ap (λ (z : Session). z .work .task) r);
+      stage = (ap (wordsIn xs stageAt) (sym (stage-length (c .stage))) ∙ same-words xs stageAt (stageWords (c .stage)) (h3 .0), ap (λ (z : Session). z .stage) r);
+      ledger = (same-words xs ledgerAt (ledgerWords (ledgerFor c)) (h4 .0), ap (λ (z : Session). ledgerFor (coreOf z)) r);
+      told = (same-words xs toldAt (toldWords (toldFor c)) (h4 .1), ap (λ (z : Session). toldFor (coreOf z)) r);
+      cap = (same-words xs capAt (capWords (b .cap)) (b1 .0), ap (λ (z : Session). z .info .cap) r);
+      port1 = (same-words xs port1At (portWords (b .port1)) (b2 .0), ap (λ (z : Session). z .info .port1) r);
+      port2 = (same-words xs port2At (portWords (b .port2)) (b3 .0), ap (λ (z : Session). z .info .port2) r);
+      reset = (same-words xs resetAt (resetWords (b .reset)) (t1 .0), ap (λ (z : Session). z .work .reset) r);
+      find = (same-words xs findAt (findWords (b .find)) (t2 .0), ap (λ (z : Session). z .work .find) r);
+      slots = flags-words xs slotsAt SLOTS (t2 .1) ∙ ap (flat slotWords) rows;
+      rows = rows;
+    }

@@ -1,154 +1,161 @@
--- A session as 417 words of eight bytes, and the session that words stand for. Word 0 to 12 the task, which is all that changes while a command is polled; then
--- word 13 to 20 the stage, 21 to 52 the ledger with the two counts first, 53 to 60 what was told, 61 to 92 the capabilities, 93 to 109 and 110 to 126 the ports,
--- 127 to 150 the reset, 151 to 168 the search for the UAR BAR, 169 to 224 the ranges, 225 to 416 the lent buffers.
-use Prim.Native.Nat.{ℕ, _+_}
+-- A session as words, and the session that words stand for: the head, and what stands behind it (crates/behind/specs/Behind.antt). Where each part stands, and how
+-- many words it has: crates/words/specs/Places.antt.
+use Prim.Native.Nat.{ℕ}
 use mathlib.Core.Bool.{Bool, false}
-use mathlib.Core.List.{List, [], _∷_, _++_}
+use mathlib.Core.List.{List, [], _++_}
 use lib.ListN.{length}
 use lib.Dec.{leb, ltb}
 use Rattle.fields.specs.Outcome.{Outcome, value, refused, pick}
-use Rattle.words.specs.Words.{wordsIn, putWords, sameWords, flat, rowsIn, at}
+use Rattle.words.specs.Places.{TASK, STAGE, LEDGER, TOLD, SLOTS, taskAt, stageAt, ledgerAt, toldAt, capAt}
+use Rattle.words.specs.Places.{port1At, port2At, resetAt, findAt, slotsAt, stateBytes}
+use Rattle.words.specs.Words.{wordsIn, putWords, sameWords, flat}
 use Rattle.words_task.specs.Coding.{taskWords, taskOf}
 use Rattle.words_stage.specs.Coding.{stageWords, stageOf}
-use Rattle.words_books.specs.Coding.{bufferWords, bufferOf, ledgerWords, ledgerOf}
+use Rattle.words_books.specs.Coding.{slotWords, ledgerWords, ledgerOf}
 use Rattle.words_books.specs.declared.Ledger.{Ledger}
-use Rattle.words_info.specs.Coding.{toldWords, toldOf, capWords, capOf, portWords, portOf}
+use Rattle.words_info.specs.Coding.{toldWords, toldOf, capWords, portWords}
 use Rattle.words_info.specs.declared.Told.{Told}
-use Rattle.words_beside.specs.Coding.{resetWords, resetOf, findWords, findOf}
-use Rattle.dma.specs.declared.Buffer.{Buffer}
+use Rattle.words_beside.specs.Coding.{resetWords, findWords}
 use Rattle.work.specs.declared.Task.{Task}
-use Rattle.work.specs.declared.Work.{Work}
-use Rattle.session.specs.declared.Icm.{Icm}
-use Rattle.session.specs.declared.Lists.{Lists}
-use Rattle.session.specs.declared.Info.{Info}
-use Rattle.session.specs.declared.Books.{Books}
+use Rattle.session.specs.Session.{fresh}
+use Rattle.session.specs.Core.{Behind, behind, full}
+use Rattle.session.specs.declared.Core.{Core}
 use Rattle.session.specs.declared.Session.{Session}
+use Rattle.behind.specs.Behind.{behindFrom, putPart, flagsStand}
 use Rattle.words_session.specs.declared.Kept.{Kept}
 use Rattle.words_session.specs.declared.Kept.the-variants as k
-use Rattle.words_session.specs.declared.Decoded.{Decoded}
-use Rattle.words_session.specs.declared.Wrote.{Wrote}
-use Rattle.words_session.specs.declared.Wrote.the-variants as w
 
--- WHAT A SESSION IS MADE OF
--- what is no array and neither the task nor the stage, nor what the card has said
-abbrev pub ledgerFor : Session → Ledger
-ledgerFor s = record {
+-- WHAT A SESSION IS MADE OF: its head, and what stands behind
+abbrev pub coreOf : Session → Core
+coreOf s = record {
+  stage = s .stage;
+  task = s .work .task;
+  wire = s .books .wire;
   ranges = s .books .lists .ranges;
   lends = s .books .lists .lends;
   started = s .books .started;
   original = s .books .original;
-  wire = s .books .wire;
-  held = s .books .held;
+  uar = s .info .uar;
+  func = s .info .func;
+  rev3 = s .info .rev3;
   failure = s .failure;
   closing = s .closing;
 }
 
-abbrev pub toldFor : Info → Told
-toldFor i = record { uar = i .uar; func = i .func; rev3 = i .rev3 }
+abbrev pub behindOf : Session → Behind
+behindOf s = behind (s .work .reset) (s .work .find) (s .info .cap) (s .info .port1) (s .info .port2) (s .books .lists .slots)
 
--- a range, and a buffer
-abbrev pub icmWords : Icm → List ℕ
-icmWords x = x .virt ∷ x .handle ∷ x .dev ∷ x .pages ∷ []
-
-abbrev pub icmOf : List ℕ → Icm
-icmOf w = record { virt = at w 0; handle = at w 1; dev = at w 2; pages = at w 3 }
-
-abbrev pub bufferIn : List ℕ → Buffer
-bufferIn w = bufferOf (at w 0) (at w 1) (at w 2)
-
--- THE WORDS, one part after the other
-abbrev pub standWords : Session → List ℕ
-standWords s = stageWords (s .stage) ++ ledgerWords (ledgerFor s)
-
-abbrev pub infoWords : Info → List ℕ
-infoWords i = toldWords (toldFor i) ++ (capWords (i .cap) ++ (portWords (i .port1) ++ portWords (i .port2)))
-
-abbrev pub tailWords : Work → List Icm → List Buffer → List ℕ
-tailWords w is bs = resetWords (w .reset) ++ (findWords (w .find) ++ (flat icmWords is ++ flat bufferWords bs))
-
-abbrev pub behindWords : Session → List ℕ
-behindWords s = standWords s ++ (infoWords (s .info) ++ tailWords (s .work) (s .books .lists .icm) (s .books .lists .lent))
-
-abbrev pub sessionWords : Session → List ℕ
-sessionWords s = taskWords (s .work .task) ++ behindWords s
-
--- the bytes once the session stands in them, and once another task does
-abbrev pub putSession : List ℕ → Session → List ℕ
-putSession xs s = putWords xs 0 (sessionWords s)
-
-abbrev pub putHot : List ℕ → Task → List ℕ
-putHot xs t = putWords xs 0 (taskWords t)
-
--- THE SESSION that words stand for
-abbrev pub taskIn : List ℕ → Task
-taskIn xs = taskOf (wordsIn xs 0 13)
-
-abbrev pub workIn : List ℕ → Work
-workIn xs = record { task = taskIn xs; reset = resetOf (wordsIn xs 127 24); find = findOf (wordsIn xs 151 18) }
-
-abbrev pub listsIn : List ℕ → Ledger → Lists
-listsIn xs l = record { icm = rowsIn icmOf 4 xs 169 14; ranges = l .ranges; lent = rowsIn bufferIn 3 xs 225 64; lends = l .lends }
-
-abbrev pub booksIn : List ℕ → Ledger → Books
-booksIn xs l = record { wire = l .wire; held = l .held; lists = listsIn xs l; started = l .started; original = l .original }
-
-abbrev pub infoFrom : List ℕ → Told → Info
-infoFrom xs t = record {
-  uar = t .uar;
-  cap = capOf (wordsIn xs 61 32);
-  func = t .func;
-  port1 = portOf (wordsIn xs 93 17);
-  port2 = portOf (wordsIn xs 110 17);
-  rev3 = t .rev3;
+-- of the head: what is neither the task nor the stage, nor was told; and what was told
+abbrev pub ledgerFor : Core → Ledger
+ledgerFor c = record {
+  ranges = c .ranges;
+  lends = c .lends;
+  started = c .started;
+  original = c .original;
+  wire = c .wire;
+  failure = c .failure;
+  closing = c .closing;
 }
 
-abbrev pub infoIn : List ℕ → Info
-infoIn xs = infoFrom xs (toldOf (wordsIn xs 53 8))
+abbrev pub toldFor : Core → Told
+toldFor c = record { uar = c .uar; func = c .func; rev3 = c .rev3 }
 
-abbrev pub sessionFrom : List ℕ → Ledger → Session
-sessionFrom xs l = record { stage = stageOf (wordsIn xs 13 8); work = workIn xs; books = booksIn xs l; info = infoIn xs; failure = l .failure; closing = l .closing }
+-- THE WORDS, one part after the other
+abbrev pub headWords : Core → List ℕ
+headWords c = taskWords (c .task) ++ (stageWords (c .stage) ++ (ledgerWords (ledgerFor c) ++ toldWords (toldFor c)))
 
-abbrev pub sessionIn : List ℕ → Session
-sessionIn xs = sessionFrom xs (ledgerOf (wordsIn xs 21 32))
+abbrev pub tailWords : Behind → List ℕ
+tailWords b = resetWords (b .reset) ++ (findWords (b .find) ++ flat slotWords (b .slots))
 
--- WORDS THAT ARE A SESSION: those of the session that they stand for, so that each tag, each bool and each number is one of its type; and the counts are within
--- their arrays. A row is three or four full words, whatever they are.
-abbrev pub countsFit : Lists → Bool
-countsFit l = pick (ltb 14 (l .ranges)) false (leb (l .lends) 64)
+abbrev pub behindWords : Behind → List ℕ
+behindWords b = capWords (b .cap) ++ (portWords (b .port1) ++ (portWords (b .port2) ++ tailWords b))
 
-abbrev pub infoStands : List ℕ → Info → Bool
-infoStands xs i =
-    pick (sameWords xs 53 (toldWords (toldFor i)))
-    (pick (sameWords xs 61 (capWords (i .cap))) (pick (sameWords xs 93 (portWords (i .port1))) (sameWords xs 110 (portWords (i .port2))) false) false) false
+abbrev pub sessionWords : Session → List ℕ
+sessionWords s = headWords (coreOf s) ++ behindWords (behindOf s)
 
-abbrev pub workStands : List ℕ → Work → Bool
-workStands xs w = pick (sameWords xs 0 (taskWords (w .task))) (pick (sameWords xs 127 (resetWords (w .reset))) (sameWords xs 151 (findWords (w .find))) false) false
+-- THE BYTES once the head stands in them, once another task does, and once the whole session does; as they were, where they are too few
+abbrev pub putHead : Core → List ℕ → List ℕ
+putHead c xs = putPart taskAt (headWords c) xs
 
-abbrev pub stands : List ℕ → Session → Bool
-stands xs s =
-    pick (countsFit (s .books .lists))
-    (pick (sameWords xs 13 (stageWords (s .stage)))
-    (pick (sameWords xs 21 (ledgerWords (ledgerFor s))) (pick (workStands xs (s .work)) (infoStands xs (s .info)) false) false) false) false
+abbrev pub putTask : Task → List ℕ → List ℕ
+putTask t xs = putPart taskAt (taskWords t) xs
 
--- THE CALLS. 21 where the bytes are too few, 20 where they are no session.
-abbrev pub decodeOf : List ℕ → Outcome Session
-decodeOf xs = pick (ltb (length xs) 3336) (refused 21 []) (pick (stands xs (sessionIn xs)) (value (sessionIn xs)) (refused 20 []))
-
-abbrev pub wroteOf : List ℕ → Outcome Unit
-wroteOf xs = pick (ltb (length xs) 3336) (refused 21 []) (value tt)
+abbrev pub putSession : List ℕ → Session → List ℕ
+putSession xs s = putWords xs taskAt (sessionWords s)
 
 abbrev pub encodedIn : List ℕ → Session → List ℕ
-encodedIn xs s = pick (ltb (length xs) 3336) xs (putSession xs s)
+encodedIn xs s = putPart taskAt (sessionWords s) xs
+
+-- THE HEAD that words stand for, and the session
+abbrev pub coreFrom : List ℕ → Ledger → Told → Core
+coreFrom xs l t = record {
+  stage = stageOf (wordsIn xs stageAt STAGE);
+  task = taskOf (wordsIn xs taskAt TASK);
+  wire = l .wire;
+  ranges = l .ranges;
+  lends = l .lends;
+  started = l .started;
+  original = l .original;
+  uar = t .uar;
+  func = t .func;
+  rev3 = t .rev3;
+  failure = l .failure;
+  closing = l .closing;
+}
+
+abbrev pub coreIn : List ℕ → Core
+coreIn xs = coreFrom xs (ledgerOf (wordsIn xs ledgerAt LEDGER)) (toldOf (wordsIn xs toldAt TOLD))
+
+-- the same; a fresh one, where the bytes are too few
+abbrev pub headIn : List ℕ → Core
+headIn xs = pick (ltb (length xs) stateBytes) (coreOf fresh) (coreIn xs)
+
+abbrev pub sessionIn : List ℕ → Session
+sessionIn xs = full (coreIn xs) (behindFrom xs)
+
+-- WORDS THAT ARE A SESSION: those of the session that they stand for, so that each tag, each bool and each number is one of its type; and the counts are within
+-- their slots. First the head, then what stands behind it.
+abbrev pub countsFit : Core → Bool
+countsFit c = pick (ltb 14 (c .ranges)) false (leb (c .lends) 64)
+
+abbrev pub headStands : List ℕ → Core → Bool
+headStands xs c =
+    pick (countsFit c)
+    (pick (sameWords xs taskAt (taskWords (c .task)))
+    (pick (sameWords xs stageAt (stageWords (c .stage)))
+    (pick (sameWords xs ledgerAt (ledgerWords (ledgerFor c))) (sameWords xs toldAt (toldWords (toldFor c))) false) false) false) false
+
+-- the reset and the search, then the slots; before them the capabilities and the ports
+abbrev pub tailStands : List ℕ → Behind → Bool
+tailStands xs b =
+    pick (sameWords xs resetAt (resetWords (b .reset)))
+    (pick (sameWords xs findAt (findWords (b .find))) (flagsStand xs slotsAt SLOTS) false) false
+
+abbrev pub behindStands : List ℕ → Behind → Bool
+behindStands xs b =
+    pick (sameWords xs capAt (capWords (b .cap)))
+    (pick (sameWords xs port1At (portWords (b .port1)))
+    (pick (sameWords xs port2At (portWords (b .port2))) (tailStands xs b) false) false) false
+
+abbrev pub stands : List ℕ → Session → Bool
+stands xs s = pick (headStands xs (coreOf s)) (behindStands xs (behindOf s)) false
+
+-- WHAT AN ANSWER TESTS, the head; and what a call tests, the whole. 21 where the bytes are too few, 20 where they are no session.
+abbrev pub readBy : Bool → List ℕ → Outcome Session
+readBy b xs = pick (ltb (length xs) stateBytes) (refused 21 []) (pick b (value (sessionIn xs)) (refused 20 []))
+
+abbrev pub headOf : List ℕ → Outcome Session
+headOf xs = readBy (headStands xs (coreIn xs)) xs
+
+abbrev pub decodeOf : List ℕ → Outcome Session
+decodeOf xs = readBy (stands xs (sessionIn xs)) xs
+
+-- a session was written, or the bytes are too few
+abbrev pub wroteOf : List ℕ → Outcome Unit
+wroteOf xs = pick (ltb (length xs) stateBytes) (refused 21 []) (value tt)
 
 -- what each answer stands for
 abbrev pub keptAs : Session → Kept → Outcome Session
 keptAs s k.Good = value s
 keptAs s k.Short = refused 21 []
 keptAs s k.NoSession = refused 20 []
-
-abbrev pub keptOf : Decoded → Outcome Session
-keptOf d = keptAs (d .session) (d .outcome)
-
-abbrev pub doneOf : Wrote → Outcome Unit
-doneOf w.Done = value tt
-doneOf w.Short = refused 21 []

@@ -5,12 +5,11 @@ use native.Mathlib.Nat.{mod-eq-of-lt}
 use native.Mathlib.Omega.{arith}
 use lib.ListN.{length}
 use lib.Dec.{lit<}
+use Rattle.words.specs.Places.{STAGE}
 use Rattle.words.specs.Words.{at}
 use Rattle.words.proofs.Laws.{Words, words-at}
-use Rattle.words_task.specs.Coding.{faultWords}
-use Rattle.words_task.proofs.Trip.{fault-back, fault-small}
-use Rattle.words_books.specs.Coding.{bufferWords, refusalWords}
-use Rattle.words_books.proofs.Trip.{buffer-back, buffer-small, refusal-back, refusal-small}
+use Rattle.words_books.specs.Coding.{refusalWords}
+use Rattle.words_books.proofs.Trip.{refusal-back, refusal-small}
 use Rattle.words_stage.specs.Coding.{virtWords, virtOf, cutterWords, cutterOf, areaWords, areaOf, prepareWords, prepareOf, bootWords, bootOf, closeWords, closeOf, formWords, formOf, clientWords, clientOf, gaveWords, gaveOf, stageWords, stageOf}
 use Rattle.words_stage.specs.Fits.{VirtFits, CutterFits, AreaFits, PrepareFits, BootFits, CloseFits, FormFits, ClientFits, GaveFits, StageFits}
 use Rattle.dma.specs.declared.Virt.{Virt}
@@ -60,26 +59,24 @@ area-small av.Fa f = (lit< tt, (lit< tt, tt))
 area-small av.Aux f = (lit< tt, (lit< tt, tt))
 area-small (av.Range x) f = (lit< tt, (f, tt))
 
-pub prepare-back : (v : Prepare) → PrepareFits v → prepareOf (at (prepareWords v) 0) (at (prepareWords v) 1) ≡ v
+pub prepare-back : (v : Prepare) → PrepareFits v → prepareOf (at (prepareWords v) 0) ≡ v
 prepare-back pv.Attributes f = refl
 prepare-back pv.Claim f = refl
 prepare-back pv.Reset f = refl
 prepare-back pv.Bar f = refl
 prepare-back pv.Inbox f = refl
 prepare-back pv.Outbox f = refl
-prepare-back (pv.GiveInbox x) f = ap pv.GiveInbox (fault-back x f)
 prepare-back pv.Look f = refl
 
 pub prepare-small : (v : Prepare) → PrepareFits v → Words (prepareWords v)
 unfolding Words
-prepare-small pv.Attributes f = (lit< tt, (lit< tt, tt))
-prepare-small pv.Claim f = (lit< tt, (lit< tt, tt))
-prepare-small pv.Reset f = (lit< tt, (lit< tt, tt))
-prepare-small pv.Bar f = (lit< tt, (lit< tt, tt))
-prepare-small pv.Inbox f = (lit< tt, (lit< tt, tt))
-prepare-small pv.Outbox f = (lit< tt, (lit< tt, tt))
-prepare-small (pv.GiveInbox x) f = (lit< tt, (words-at (faultWords x) (fault-small x f) 0, tt))
-prepare-small pv.Look f = (lit< tt, (lit< tt, tt))
+prepare-small pv.Attributes f = (lit< tt, tt)
+prepare-small pv.Claim f = (lit< tt, tt)
+prepare-small pv.Reset f = (lit< tt, tt)
+prepare-small pv.Bar f = (lit< tt, tt)
+prepare-small pv.Inbox f = (lit< tt, tt)
+prepare-small pv.Outbox f = (lit< tt, tt)
+prepare-small pv.Look f = (lit< tt, tt)
 
 pub boot-back : (v : Boot) → BootFits v → bootOf (at (bootWords v) 0) (at (bootWords v) 1) (at (bootWords v) 2) (at (bootWords v) 3) (at (bootWords v) 4) (at (bootWords v) 5) (at (bootWords v) 6) ≡ v
 boot-back bv.QueryFw f = refl
@@ -114,16 +111,11 @@ close-back cv.CloseHca f = refl
 close-back (cv.Unmap x) f = refl
 close-back cv.UnmapAux f = refl
 close-back cv.UnmapFa f = refl
+close-back cv.Quiesce f = refl
 close-back cv.Reset f = refl
-close-back (cv.FreeLent x) f = refl
-close-back (cv.FreeIcm x) f = refl
-close-back cv.FreeAux f = refl
-close-back cv.FreeFa f = refl
-close-back cv.FreeInbox f = refl
-close-back cv.FreeOutbox f = refl
+close-back (cv.Free x) f = refl
 close-back cv.Release f = refl
 close-back cv.Restore f = refl
-close-back cv.Quiesce f = refl
 
 pub close-small : (v : Close) → CloseFits v → Words (closeWords v)
 unfolding Words
@@ -132,16 +124,11 @@ close-small cv.CloseHca f = (lit< tt, (lit< tt, tt))
 close-small (cv.Unmap x) f = (lit< tt, (f, tt))
 close-small cv.UnmapAux f = (lit< tt, (lit< tt, tt))
 close-small cv.UnmapFa f = (lit< tt, (lit< tt, tt))
+close-small cv.Quiesce f = (lit< tt, (lit< tt, tt))
 close-small cv.Reset f = (lit< tt, (lit< tt, tt))
-close-small (cv.FreeLent x) f = (lit< tt, (f, tt))
-close-small (cv.FreeIcm x) f = (lit< tt, (f, tt))
-close-small cv.FreeAux f = (lit< tt, (lit< tt, tt))
-close-small cv.FreeFa f = (lit< tt, (lit< tt, tt))
-close-small cv.FreeInbox f = (lit< tt, (lit< tt, tt))
-close-small cv.FreeOutbox f = (lit< tt, (lit< tt, tt))
+close-small (cv.Free x) f = (lit< tt, (f, tt))
 close-small cv.Release f = (lit< tt, (lit< tt, tt))
 close-small cv.Restore f = (lit< tt, (lit< tt, tt))
-close-small cv.Quiesce f = (lit< tt, (lit< tt, tt))
 
 pub form-back : (v : Form) → FormFits v → formOf (at (formWords v) 0) ≡ v
 form-back fv.Imm f = refl
@@ -160,26 +147,26 @@ form-small fv.InOut f = (lit< tt, tt)
 
 pub client-back : (v : Client) → ClientFits v → clientOf (at (clientWords v) 0) (at (clientWords v) 1) (at (clientWords v) 2) ≡ v
 client-back (lv.Command x) f = ap lv.Command (form-back x f)
-client-back lv.Lend f = refl
+client-back (lv.Lend x) f = refl
 client-back (lv.UndoTo x y) f = simp (mod-eq-of-lt (f .1))
 
 pub client-small : (v : Client) → ClientFits v → Words (clientWords v)
 unfolding Words
 client-small (lv.Command x) f = (lit< tt, (words-at (formWords x) (form-small x f) 0, (lit< tt, tt)))
-client-small lv.Lend f = (lit< tt, (lit< tt, (lit< tt, tt)))
+client-small (lv.Lend x) f = (lit< tt, (f, (lit< tt, tt)))
 client-small (lv.UndoTo x y) f = (lit< tt, (f .0, (omega (arith, (f .1)), tt)))
 
 pub gave-back : (v : Gave) → GaveFits v → gaveOf (at (gaveWords v) 0) (at (gaveWords v) 1) (at (gaveWords v) 2) (at (gaveWords v) 3) ≡ v
 gave-back gv.Nothing f = refl
 gave-back (gv.Command x y) f = refl
-gave-back (gv.Lent x) f = ap gv.Lent (buffer-back x f)
+gave-back (gv.Lent x) f = refl
 gave-back (gv.Failed x) f = ap gv.Failed (refusal-back x f)
 
 pub gave-small : (v : Gave) → GaveFits v → Words (gaveWords v)
 unfolding Words
 gave-small gv.Nothing f = (lit< tt, (lit< tt, (lit< tt, (lit< tt, tt))))
 gave-small (gv.Command x y) f = (lit< tt, (f .0, (f .1, (lit< tt, tt))))
-gave-small (gv.Lent x) f = (lit< tt, (words-at (bufferWords x) (buffer-small x f) 0, (words-at (bufferWords x) (buffer-small x f) 1, (words-at (bufferWords x) (buffer-small x f) 2, tt))))
+gave-small (gv.Lent x) f = (lit< tt, (f, (lit< tt, (lit< tt, tt))))
 gave-small (gv.Failed x) f = (lit< tt, (words-at (refusalWords x) (refusal-small x f) 0, (words-at (refusalWords x) (refusal-small x f) 1, (words-at (refusalWords x) (refusal-small x f) 2, tt))))
 
 pub stage-back : (v : Stage) → StageFits v → stageOf (stageWords v) ≡ v
@@ -188,24 +175,24 @@ stage-back (sv.Open x) f = ap sv.Open (gave-back x f)
 stage-back sv.Ended f = refl
 stage-back (sv.Prepare x) f = ap sv.Prepare (prepare-back x f)
 stage-back (sv.Boot x) f = ap sv.Boot (boot-back x f)
-stage-back (sv.Close x) f = ap sv.Close (close-back x f)
 stage-back (sv.Client x) f = ap sv.Client (client-back x f)
+stage-back (sv.Close x) f = ap sv.Close (close-back x f)
 
 pub stage-small : (v : Stage) → StageFits v → Words (stageWords v)
 unfolding Words
 stage-small sv.Fresh f = (lit< tt, (lit< tt, (lit< tt, (lit< tt, (lit< tt, (lit< tt, (lit< tt, (lit< tt, tt))))))))
 stage-small (sv.Open x) f = (lit< tt, (words-at (gaveWords x) (gave-small x f) 0, (words-at (gaveWords x) (gave-small x f) 1, (words-at (gaveWords x) (gave-small x f) 2, (words-at (gaveWords x) (gave-small x f) 3, (lit< tt, (lit< tt, (lit< tt, tt))))))))
 stage-small sv.Ended f = (lit< tt, (lit< tt, (lit< tt, (lit< tt, (lit< tt, (lit< tt, (lit< tt, (lit< tt, tt))))))))
-stage-small (sv.Prepare x) f = (lit< tt, (words-at (prepareWords x) (prepare-small x f) 0, (words-at (prepareWords x) (prepare-small x f) 1, (lit< tt, (lit< tt, (lit< tt, (lit< tt, (lit< tt, tt))))))))
+stage-small (sv.Prepare x) f = (lit< tt, (words-at (prepareWords x) (prepare-small x f) 0, (lit< tt, (lit< tt, (lit< tt, (lit< tt, (lit< tt, (lit< tt, tt))))))))
 stage-small (sv.Boot x) f = (lit< tt, (words-at (bootWords x) (boot-small x f) 0, (words-at (bootWords x) (boot-small x f) 1, (words-at (bootWords x) (boot-small x f) 2, (words-at (bootWords x) (boot-small x f) 3, (words-at (bootWords x) (boot-small x f) 4, (words-at (bootWords x) (boot-small x f) 5, (words-at (bootWords x) (boot-small x f) 6, tt))))))))
-stage-small (sv.Close x) f = (lit< tt, (words-at (closeWords x) (close-small x f) 0, (words-at (closeWords x) (close-small x f) 1, (lit< tt, (lit< tt, (lit< tt, (lit< tt, (lit< tt, tt))))))))
 stage-small (sv.Client x) f = (lit< tt, (words-at (clientWords x) (client-small x f) 0, (words-at (clientWords x) (client-small x f) 1, (words-at (clientWords x) (client-small x f) 2, (lit< tt, (lit< tt, (lit< tt, (lit< tt, tt))))))))
+stage-small (sv.Close x) f = (lit< tt, (words-at (closeWords x) (close-small x f) 0, (words-at (closeWords x) (close-small x f) 1, (lit< tt, (lit< tt, (lit< tt, (lit< tt, (lit< tt, tt))))))))
 
-pub stage-length : (v : Stage) → length (stageWords v) ≡ 8
+pub stage-length : (v : Stage) → length (stageWords v) ≡ STAGE
 stage-length sv.Fresh = refl
 stage-length (sv.Open x) = refl
 stage-length sv.Ended = refl
 stage-length (sv.Prepare x) = refl
 stage-length (sv.Boot x) = refl
-stage-length (sv.Close x) = refl
 stage-length (sv.Client x) = refl
+stage-length (sv.Close x) = refl

@@ -2,8 +2,7 @@
 use mathlib.Core.List.{List}
 use mir.Val.{Val}
 use denote.Laws.{Is}
-use Rattle.words_books.proofs.Typed.{buffer-typed, refusal-typed}
-use Rattle.words_task.proofs.Typed.{fault-typed}
+use Rattle.words_books.proofs.Typed.{refusal-typed}
 use Rattle.dma.specs.declared.Virt.{Virt}
 use Rattle.dma.specs.declared.Cutter.{Cutter}
 use Rattle.session.specs.declared.Area.{Area}
@@ -58,7 +57,6 @@ prepare-typed prepare.Reset vs h = tt
 prepare-typed prepare.Bar vs h = tt
 prepare-typed prepare.Inbox vs h = tt
 prepare-typed prepare.Outbox vs h = tt
-prepare-typed (prepare.GiveInbox x) vs h = fault-typed x _ (h .1 .1 .1 .1 .0)
 prepare-typed prepare.Look vs h = tt
 
 pub boot-typed : (v : Boot) (vs : List Val) → Is boot-row v vs → BootFits v
@@ -82,12 +80,7 @@ close-typed close.UnmapAux vs h = tt
 close-typed close.UnmapFa vs h = tt
 close-typed close.Quiesce vs h = tt
 close-typed close.Reset vs h = tt
-close-typed (close.FreeLent x) vs h = h .1 .1 .1 .1 .0 .1
-close-typed (close.FreeIcm x) vs h = h .1 .1 .1 .1 .0 .1
-close-typed close.FreeAux vs h = tt
-close-typed close.FreeFa vs h = tt
-close-typed close.FreeInbox vs h = tt
-close-typed close.FreeOutbox vs h = tt
+close-typed (close.Free x) vs h = h .1 .1 .1 .1 .0 .1
 close-typed close.Release vs h = tt
 close-typed close.Restore vs h = tt
 
@@ -100,13 +93,13 @@ form-typed form.InOut vs h = tt
 
 pub client-typed : (v : Client) (vs : List Val) → Is client-row v vs → ClientFits v
 client-typed (client.Command x) vs h = form-typed x _ (h .1 .1 .1 .1 .0)
-client-typed client.Lend vs h = tt
+client-typed (client.Lend x) vs h = h .1 .1 .1 .1 .0 .1
 client-typed (client.UndoTo x y) vs h = (h .1 .1 .1 .1 .0 .1, h .1 .1 .1 .1 .1 .0 .1)
 
 pub gave-typed : (v : Gave) (vs : List Val) → Is gave-row v vs → GaveFits v
 gave-typed gave.Nothing vs h = tt
 gave-typed (gave.Command x y) vs h = (h .1 .1 .1 .1 .0 .1, h .1 .1 .1 .1 .1 .0 .1)
-gave-typed (gave.Lent x) vs h = buffer-typed x _ (h .1 .1 .1 .1 .0)
+gave-typed (gave.Lent x) vs h = h .1 .1 .1 .1 .0 .1
 gave-typed (gave.Failed x) vs h = refusal-typed x _ (h .1 .1 .1 .1 .0)
 
 pub stage-typed : (v : Stage) (vs : List Val) → Is stage-row v vs → StageFits v

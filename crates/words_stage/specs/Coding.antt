@@ -1,11 +1,10 @@
--- How far a session has come, as eight words.
+-- How far a session has come, as words: its number in the order of the enum, then what it carries.
 use Prim.Native.Nat.{ℕ, _%_}
 use mathlib.Core.List.{List, [], _∷_}
 use lib.Dec.{eqb}
 use Rattle.fields.specs.Outcome.{pick}
 use Rattle.words.specs.Words.{at}
-use Rattle.words_task.specs.Coding.{faultWords, faultOf}
-use Rattle.words_books.specs.Coding.{bufferWords, bufferOf, refusalWords, refusalOf}
+use Rattle.words_books.specs.Coding.{refusalWords, refusalOf}
 use Rattle.dma.specs.declared.Virt.{Virt}
 use Rattle.dma.specs.declared.Virt.the-variants as vv
 use Rattle.dma.specs.declared.Cutter.{Cutter}
@@ -61,25 +60,23 @@ areaOf tag a =
 
 -- what a task is for, before the first command
 abbrev pub prepareWords : Prepare → List ℕ
-prepareWords pv.Attributes = 0 ∷ 0 ∷ []
-prepareWords pv.Claim = 1 ∷ 0 ∷ []
-prepareWords pv.Reset = 2 ∷ 0 ∷ []
-prepareWords pv.Bar = 3 ∷ 0 ∷ []
-prepareWords pv.Inbox = 4 ∷ 0 ∷ []
-prepareWords pv.Outbox = 5 ∷ 0 ∷ []
-prepareWords (pv.GiveInbox x) = 6 ∷ at (faultWords x) 0 ∷ []
-prepareWords pv.Look = 7 ∷ 0 ∷ []
+prepareWords pv.Attributes = 0 ∷ []
+prepareWords pv.Claim = 1 ∷ []
+prepareWords pv.Reset = 2 ∷ []
+prepareWords pv.Bar = 3 ∷ []
+prepareWords pv.Inbox = 4 ∷ []
+prepareWords pv.Outbox = 5 ∷ []
+prepareWords pv.Look = 6 ∷ []
 
-abbrev pub prepareOf : (tag a : ℕ) → Prepare
-prepareOf tag a =
+abbrev pub prepareOf : (tag : ℕ) → Prepare
+prepareOf tag =
     pick (eqb tag 1) pv.Claim (
     pick (eqb tag 2) pv.Reset (
     pick (eqb tag 3) pv.Bar (
     pick (eqb tag 4) pv.Inbox (
     pick (eqb tag 5) pv.Outbox (
-    pick (eqb tag 6) (pv.GiveInbox (faultOf a)) (
-    pick (eqb tag 7) pv.Look (
-    pv.Attributes)))))))
+    pick (eqb tag 6) pv.Look (
+    pv.Attributes))))))
 
 -- what a task is for, in bring-up
 abbrev pub bootWords : Boot → List ℕ
@@ -116,16 +113,11 @@ closeWords cv.CloseHca = 1 ∷ 0 ∷ []
 closeWords (cv.Unmap x) = 2 ∷ x ∷ []
 closeWords cv.UnmapAux = 3 ∷ 0 ∷ []
 closeWords cv.UnmapFa = 4 ∷ 0 ∷ []
-closeWords cv.Reset = 5 ∷ 0 ∷ []
-closeWords (cv.FreeLent x) = 6 ∷ x ∷ []
-closeWords (cv.FreeIcm x) = 7 ∷ x ∷ []
-closeWords cv.FreeAux = 8 ∷ 0 ∷ []
-closeWords cv.FreeFa = 9 ∷ 0 ∷ []
-closeWords cv.FreeInbox = 10 ∷ 0 ∷ []
-closeWords cv.FreeOutbox = 11 ∷ 0 ∷ []
-closeWords cv.Release = 12 ∷ 0 ∷ []
-closeWords cv.Restore = 13 ∷ 0 ∷ []
-closeWords cv.Quiesce = 14 ∷ 0 ∷ []
+closeWords cv.Quiesce = 5 ∷ 0 ∷ []
+closeWords cv.Reset = 6 ∷ 0 ∷ []
+closeWords (cv.Free x) = 7 ∷ x ∷ []
+closeWords cv.Release = 8 ∷ 0 ∷ []
+closeWords cv.Restore = 9 ∷ 0 ∷ []
 
 abbrev pub closeOf : (tag a : ℕ) → Close
 closeOf tag a =
@@ -133,17 +125,12 @@ closeOf tag a =
     pick (eqb tag 2) (cv.Unmap a) (
     pick (eqb tag 3) cv.UnmapAux (
     pick (eqb tag 4) cv.UnmapFa (
-    pick (eqb tag 5) cv.Reset (
-    pick (eqb tag 6) (cv.FreeLent a) (
-    pick (eqb tag 7) (cv.FreeIcm a) (
-    pick (eqb tag 8) cv.FreeAux (
-    pick (eqb tag 9) cv.FreeFa (
-    pick (eqb tag 10) cv.FreeInbox (
-    pick (eqb tag 11) cv.FreeOutbox (
-    pick (eqb tag 12) cv.Release (
-    pick (eqb tag 13) cv.Restore (
-    pick (eqb tag 14) cv.Quiesce (
-    cv.Undo (a % 4294967296)))))))))))))))
+    pick (eqb tag 5) cv.Quiesce (
+    pick (eqb tag 6) cv.Reset (
+    pick (eqb tag 7) (cv.Free a) (
+    pick (eqb tag 8) cv.Release (
+    pick (eqb tag 9) cv.Restore (
+    cv.Undo (a % 4294967296))))))))))
 
 -- the form of a client's command
 abbrev pub formWords : Form → List ℕ
@@ -164,12 +151,12 @@ formOf tag =
 -- what a task is for, in a client's call
 abbrev pub clientWords : Client → List ℕ
 clientWords (lv.Command x) = 0 ∷ at (formWords x) 0 ∷ 0 ∷ []
-clientWords lv.Lend = 1 ∷ 0 ∷ 0 ∷ []
+clientWords (lv.Lend x) = 1 ∷ x ∷ 0 ∷ []
 clientWords (lv.UndoTo x y) = 2 ∷ x ∷ y ∷ []
 
 abbrev pub clientOf : (tag a b : ℕ) → Client
 clientOf tag a b =
-    pick (eqb tag 1) lv.Lend (
+    pick (eqb tag 1) (lv.Lend a) (
     pick (eqb tag 2) (lv.UndoTo a (b % 4294967296)) (
     lv.Command (formOf a)))
 
@@ -177,13 +164,13 @@ clientOf tag a b =
 abbrev pub gaveWords : Gave → List ℕ
 gaveWords gv.Nothing = 0 ∷ 0 ∷ 0 ∷ 0 ∷ []
 gaveWords (gv.Command x y) = 1 ∷ x ∷ y ∷ 0 ∷ []
-gaveWords (gv.Lent x) = 2 ∷ at (bufferWords x) 0 ∷ at (bufferWords x) 1 ∷ at (bufferWords x) 2 ∷ []
+gaveWords (gv.Lent x) = 2 ∷ x ∷ 0 ∷ 0 ∷ []
 gaveWords (gv.Failed x) = 3 ∷ at (refusalWords x) 0 ∷ at (refusalWords x) 1 ∷ at (refusalWords x) 2 ∷ []
 
 abbrev pub gaveOf : (tag a b d : ℕ) → Gave
 gaveOf tag a b d =
     pick (eqb tag 1) (gv.Command a b) (
-    pick (eqb tag 2) (gv.Lent (bufferOf a b d)) (
+    pick (eqb tag 2) (gv.Lent a) (
     pick (eqb tag 3) (gv.Failed (refusalOf a b d)) (
     gv.Nothing)))
 
@@ -192,17 +179,17 @@ abbrev pub stageWords : Stage → List ℕ
 stageWords sv.Fresh = 0 ∷ 0 ∷ 0 ∷ 0 ∷ 0 ∷ 0 ∷ 0 ∷ 0 ∷ []
 stageWords (sv.Open x) = 1 ∷ at (gaveWords x) 0 ∷ at (gaveWords x) 1 ∷ at (gaveWords x) 2 ∷ at (gaveWords x) 3 ∷ 0 ∷ 0 ∷ 0 ∷ []
 stageWords sv.Ended = 2 ∷ 0 ∷ 0 ∷ 0 ∷ 0 ∷ 0 ∷ 0 ∷ 0 ∷ []
-stageWords (sv.Prepare x) = 3 ∷ at (prepareWords x) 0 ∷ at (prepareWords x) 1 ∷ 0 ∷ 0 ∷ 0 ∷ 0 ∷ 0 ∷ []
+stageWords (sv.Prepare x) = 3 ∷ at (prepareWords x) 0 ∷ 0 ∷ 0 ∷ 0 ∷ 0 ∷ 0 ∷ 0 ∷ []
 stageWords (sv.Boot x) = 4 ∷ at (bootWords x) 0 ∷ at (bootWords x) 1 ∷ at (bootWords x) 2 ∷ at (bootWords x) 3 ∷ at (bootWords x) 4 ∷ at (bootWords x) 5 ∷ at (bootWords x) 6 ∷ []
-stageWords (sv.Close x) = 5 ∷ at (closeWords x) 0 ∷ at (closeWords x) 1 ∷ 0 ∷ 0 ∷ 0 ∷ 0 ∷ 0 ∷ []
-stageWords (sv.Client x) = 6 ∷ at (clientWords x) 0 ∷ at (clientWords x) 1 ∷ at (clientWords x) 2 ∷ 0 ∷ 0 ∷ 0 ∷ 0 ∷ []
+stageWords (sv.Client x) = 5 ∷ at (clientWords x) 0 ∷ at (clientWords x) 1 ∷ at (clientWords x) 2 ∷ 0 ∷ 0 ∷ 0 ∷ 0 ∷ []
+stageWords (sv.Close x) = 6 ∷ at (closeWords x) 0 ∷ at (closeWords x) 1 ∷ 0 ∷ 0 ∷ 0 ∷ 0 ∷ 0 ∷ []
 
 abbrev pub stageOf : List ℕ → Stage
 stageOf w =
     pick (eqb (at w 0) 1) (sv.Open (gaveOf (at w 1) (at w 2) (at w 3) (at w 4))) (
     pick (eqb (at w 0) 2) sv.Ended (
-    pick (eqb (at w 0) 3) (sv.Prepare (prepareOf (at w 1) (at w 2))) (
+    pick (eqb (at w 0) 3) (sv.Prepare (prepareOf (at w 1))) (
     pick (eqb (at w 0) 4) (sv.Boot (bootOf (at w 1) (at w 2) (at w 3) (at w 4) (at w 5) (at w 6) (at w 7))) (
-    pick (eqb (at w 0) 5) (sv.Close (closeOf (at w 1) (at w 2))) (
-    pick (eqb (at w 0) 6) (sv.Client (clientOf (at w 1) (at w 2) (at w 3))) (
+    pick (eqb (at w 0) 5) (sv.Client (clientOf (at w 1) (at w 2) (at w 3))) (
+    pick (eqb (at w 0) 6) (sv.Close (closeOf (at w 1) (at w 2))) (
     sv.Fresh))))))

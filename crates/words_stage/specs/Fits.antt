@@ -1,7 +1,6 @@
 -- Each number is one of its type, and each array has its length.
 use Prim.Native.Nat.{_^_, _<_}
-use Rattle.words_task.specs.Fits.{FaultFits}
-use Rattle.words_books.specs.Fits.{BufferFits, RefusalFits}
+use Rattle.words_books.specs.Fits.{RefusalFits}
 use Rattle.dma.specs.declared.Virt.{Virt}
 use Rattle.dma.specs.declared.Virt.the-variants as vv
 use Rattle.dma.specs.declared.Cutter.{Cutter}
@@ -43,7 +42,6 @@ PrepareFits pv.Reset = Unit {0}
 PrepareFits pv.Bar = Unit {0}
 PrepareFits pv.Inbox = Unit {0}
 PrepareFits pv.Outbox = Unit {0}
-PrepareFits (pv.GiveInbox x) = FaultFits x
 PrepareFits pv.Look = Unit {0}
 
 abbrev pub BootFits : Boot → Type 0
@@ -65,16 +63,11 @@ CloseFits cv.CloseHca = Unit {0}
 CloseFits (cv.Unmap x) = x < 2 ^ 64
 CloseFits cv.UnmapAux = Unit {0}
 CloseFits cv.UnmapFa = Unit {0}
+CloseFits cv.Quiesce = Unit {0}
 CloseFits cv.Reset = Unit {0}
-CloseFits (cv.FreeLent x) = x < 2 ^ 64
-CloseFits (cv.FreeIcm x) = x < 2 ^ 64
-CloseFits cv.FreeAux = Unit {0}
-CloseFits cv.FreeFa = Unit {0}
-CloseFits cv.FreeInbox = Unit {0}
-CloseFits cv.FreeOutbox = Unit {0}
+CloseFits (cv.Free x) = x < 2 ^ 64
 CloseFits cv.Release = Unit {0}
 CloseFits cv.Restore = Unit {0}
-CloseFits cv.Quiesce = Unit {0}
 
 abbrev pub FormFits : Form → Type 0
 FormFits fv.Imm = Unit {0}
@@ -85,13 +78,13 @@ FormFits fv.InOut = Unit {0}
 
 abbrev pub ClientFits : Client → Type 0
 ClientFits (lv.Command x) = FormFits x
-ClientFits lv.Lend = Unit {0}
+ClientFits (lv.Lend x) = x < 2 ^ 64
 ClientFits (lv.UndoTo x y) = (x < 2 ^ 64) × (y < 2 ^ 32)
 
 abbrev pub GaveFits : Gave → Type 0
 GaveFits gv.Nothing = Unit {0}
 GaveFits (gv.Command x y) = (x < 2 ^ 64) × (y < 2 ^ 64)
-GaveFits (gv.Lent x) = BufferFits x
+GaveFits (gv.Lent x) = x < 2 ^ 64
 GaveFits (gv.Failed x) = RefusalFits x
 
 abbrev pub StageFits : Stage → Type 0
@@ -100,5 +93,5 @@ StageFits (sv.Open x) = GaveFits x
 StageFits sv.Ended = Unit {0}
 StageFits (sv.Prepare x) = PrepareFits x
 StageFits (sv.Boot x) = BootFits x
-StageFits (sv.Close x) = CloseFits x
 StageFits (sv.Client x) = ClientFits x
+StageFits (sv.Close x) = CloseFits x

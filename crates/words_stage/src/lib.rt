@@ -1,4 +1,4 @@
-// How far a session has come, as eight words: its number, then what it carries; words that it does not need are 0.
+// How far a session has come, as words: its number in the order of the enum, then what it carries; words that it does not need are 0.
 use dma::Cutter;
 use dma::Virt;
 use session::Area;
@@ -74,26 +74,22 @@ fn area_from(tag: u64, a: u64) -> Area
 }
 
 // What a task is for, before the first command.
-fn prepare_words(v: Prepare) -> [u64; 2]
+fn prepare_words(v: Prepare) -> [u64; 1]
     ensures { λ r. ⌜ r ≡ prepareWords v ⌝ }
 {
     match v {
-        Prepare::Attributes => [0, 0],
-        Prepare::Claim => [1, 0],
-        Prepare::Reset => [2, 0],
-        Prepare::Bar => [3, 0],
-        Prepare::Inbox => [4, 0],
-        Prepare::Outbox => [5, 0],
-        Prepare::GiveInbox(x) => {
-            let w = words_task::fault_words(x);
-            [6, w[0]]
-        }
-        Prepare::Look => [7, 0],
+        Prepare::Attributes => [0],
+        Prepare::Claim => [1],
+        Prepare::Reset => [2],
+        Prepare::Bar => [3],
+        Prepare::Inbox => [4],
+        Prepare::Outbox => [5],
+        Prepare::Look => [6],
     }
 }
 
-fn prepare_from(tag: u64, a: u64) -> Prepare
-    ensures { λ r. ⌜ r ≡ prepareOf tag a ⌝ }
+fn prepare_from(tag: u64) -> Prepare
+    ensures { λ r. ⌜ r ≡ prepareOf tag ⌝ }
 {
     match tag {
         1 => Prepare::Claim,
@@ -101,8 +97,7 @@ fn prepare_from(tag: u64, a: u64) -> Prepare
         3 => Prepare::Bar,
         4 => Prepare::Inbox,
         5 => Prepare::Outbox,
-        6 => Prepare::GiveInbox(words_task::fault_from(a)),
-        7 => Prepare::Look,
+        6 => Prepare::Look,
         _ => Prepare::Attributes,
     }
 }
@@ -161,16 +156,11 @@ fn close_words(v: Close) -> [u64; 2]
         Close::Unmap(x) => [2, words::long(x)],
         Close::UnmapAux => [3, 0],
         Close::UnmapFa => [4, 0],
-        Close::Reset => [5, 0],
-        Close::FreeLent(x) => [6, words::long(x)],
-        Close::FreeIcm(x) => [7, words::long(x)],
-        Close::FreeAux => [8, 0],
-        Close::FreeFa => [9, 0],
-        Close::FreeInbox => [10, 0],
-        Close::FreeOutbox => [11, 0],
-        Close::Release => [12, 0],
-        Close::Restore => [13, 0],
-        Close::Quiesce => [14, 0],
+        Close::Quiesce => [5, 0],
+        Close::Reset => [6, 0],
+        Close::Free(x) => [7, words::long(x)],
+        Close::Release => [8, 0],
+        Close::Restore => [9, 0],
     }
 }
 
@@ -182,16 +172,11 @@ fn close_from(tag: u64, a: u64) -> Close
         2 => Close::Unmap(words::size(a)),
         3 => Close::UnmapAux,
         4 => Close::UnmapFa,
-        5 => Close::Reset,
-        6 => Close::FreeLent(words::size(a)),
-        7 => Close::FreeIcm(words::size(a)),
-        8 => Close::FreeAux,
-        9 => Close::FreeFa,
-        10 => Close::FreeInbox,
-        11 => Close::FreeOutbox,
-        12 => Close::Release,
-        13 => Close::Restore,
-        14 => Close::Quiesce,
+        5 => Close::Quiesce,
+        6 => Close::Reset,
+        7 => Close::Free(words::size(a)),
+        8 => Close::Release,
+        9 => Close::Restore,
         _ => Close::Undo(words::narrow32(a)),
     }
 }
@@ -230,7 +215,7 @@ fn client_words(v: Client) -> [u64; 3]
             let w = form_words(x);
             [0, w[0], 0]
         }
-        Client::Lend => [1, 0, 0],
+        Client::Lend(x) => [1, words::long(x), 0],
         Client::UndoTo(x, y) => [2, words::long(x), words::wide32(y)],
     }
 }
@@ -239,7 +224,7 @@ fn client_from(tag: u64, a: u64, b: u64) -> Client
     ensures { λ r. ⌜ r ≡ clientOf tag a b ⌝ }
 {
     match tag {
-        1 => Client::Lend,
+        1 => Client::Lend(words::size(a)),
         2 => Client::UndoTo(words::size(a), words::narrow32(b)),
         _ => Client::Command(form_from(a)),
     }
@@ -252,10 +237,7 @@ fn gave_words(v: Gave) -> [u64; 4]
     match v {
         Gave::Nothing => [0, 0, 0, 0],
         Gave::Command(x, y) => [1, x, y, 0],
-        Gave::Lent(x) => {
-            let w = words_books::buffer_words(x);
-            [2, w[0], w[1], w[2]]
-        }
+        Gave::Lent(x) => [2, words::long(x), 0, 0],
         Gave::Failed(x) => {
             let w = words_books::refusal_words(x);
             [3, w[0], w[1], w[2]]
@@ -268,14 +250,14 @@ fn gave_from(tag: u64, a: u64, b: u64, d: u64) -> Gave
 {
     match tag {
         1 => Gave::Command(a, b),
-        2 => Gave::Lent(words_books::buffer_from(a, b, d)),
+        2 => Gave::Lent(words::size(a)),
         3 => Gave::Failed(words_books::refusal_from(a, b, d)),
         _ => Gave::Nothing,
     }
 }
 
 // How far the session has come.
-pub fn stage_words(v: Stage) -> [u64; 8]
+pub fn stage_words(v: Stage) -> [u64; words::STAGE]
     ensures { λ r. ⌜ r ≡ stageWords v ⌝ }
 {
     match v {
@@ -287,34 +269,34 @@ pub fn stage_words(v: Stage) -> [u64; 8]
         Stage::Ended => [2, 0, 0, 0, 0, 0, 0, 0],
         Stage::Prepare(x) => {
             let w = prepare_words(x);
-            [3, w[0], w[1], 0, 0, 0, 0, 0]
+            [3, w[0], 0, 0, 0, 0, 0, 0]
         }
         Stage::Boot(x) => {
             let w = boot_words(x);
             [4, w[0], w[1], w[2], w[3], w[4], w[5], w[6]]
         }
-        Stage::Close(x) => {
-            let w = close_words(x);
-            [5, w[0], w[1], 0, 0, 0, 0, 0]
-        }
         Stage::Client(x) => {
             let w = client_words(x);
-            [6, w[0], w[1], w[2], 0, 0, 0, 0]
+            [5, w[0], w[1], w[2], 0, 0, 0, 0]
+        }
+        Stage::Close(x) => {
+            let w = close_words(x);
+            [6, w[0], w[1], 0, 0, 0, 0, 0]
         }
     }
 }
 
-pub fn stage_from(w: [u64; 8]) -> Stage
+pub fn stage_from(w: [u64; words::STAGE]) -> Stage
     ensures { λ r. ⌜ r ≡ stageOf w ⌝ }
 {
     let tag = w[0];
     match tag {
         1 => Stage::Open(gave_from(w[1], w[2], w[3], w[4])),
         2 => Stage::Ended,
-        3 => Stage::Prepare(prepare_from(w[1], w[2])),
+        3 => Stage::Prepare(prepare_from(w[1])),
         4 => Stage::Boot(boot_from(w[1], w[2], w[3], w[4], w[5], w[6], w[7])),
-        5 => Stage::Close(close_from(w[1], w[2])),
-        6 => Stage::Client(client_from(w[1], w[2], w[3])),
+        5 => Stage::Client(client_from(w[1], w[2], w[3])),
+        6 => Stage::Close(close_from(w[1], w[2])),
         _ => Stage::Fresh,
     }
 }

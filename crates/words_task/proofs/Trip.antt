@@ -5,6 +5,7 @@ use native.Mathlib.Nat.{mod-eq-of-lt}
 use native.Mathlib.Omega.{arith}
 use lib.ListN.{length}
 use lib.Dec.{lit<}
+use Rattle.words.specs.Places.{TASK}
 use Rattle.words.specs.Words.{at}
 use Rattle.words.proofs.Laws.{Words, words-at, bit-back, bit-small}
 use Rattle.words_task.specs.Coding.{faultWords, faultOf, catasWords, catasOf, phaseWords, phaseOf, cmdWords, cmdOf, attrWords, attrOf, claimWords, claimOf, makePhaseWords, makePhaseOf, makingWords, makingOf, freePhaseWords, freePhaseOf, freeingWords, freeingOf, partingWords, partingOf, taskWords, taskOf}
@@ -191,7 +192,7 @@ task-small tv.Look f = (lit< tt, (lit< tt, (lit< tt, (lit< tt, (lit< tt, (lit< t
 task-small (tv.Cmd x) f = cmd-small x f
 task-small (tv.Part x) f = (lit< tt, (words-at (partingWords x) (parting-small x f) 0, (words-at (partingWords x) (parting-small x f) 1, (lit< tt, (lit< tt, (lit< tt, (lit< tt, (lit< tt, (lit< tt, (lit< tt, (lit< tt, (lit< tt, (lit< tt, tt)))))))))))))
 
-pub task-length : (v : Task) → length (taskWords v) ≡ 13
+pub task-length : (v : Task) → length (taskWords v) ≡ TASK
 task-length tv.Rest = refl
 task-length (tv.Attr x) = refl
 task-length (tv.Claim x) = refl

@@ -1,4 +1,4 @@
--- The task under way as thirteen words.
+-- The task under way as words.
 use Prim.Native.Nat.{ℕ, _%_}
 use mathlib.Core.List.{List, [], _∷_}
 use lib.Dec.{eqb}

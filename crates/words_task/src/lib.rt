@@ -1,4 +1,4 @@
-// The task under way as thirteen words: its number, then what it carries; words that it does not need are 0.
+// The task under way as words: its number, then what it carries; words that it does not need are 0.
 use buffer::Fault;
 use buffer::FreePhase;
 use buffer::Freeing;
@@ -93,7 +93,7 @@ fn phase_from(tag: u64, a: u64) -> Phase
 }
 
 // A command, with the number of its task.
-fn cmd_words(v: Cmd) -> [u64; 13]
+fn cmd_words(v: Cmd) -> [u64; words::TASK]
     ensures { λ r. ⌜ r ≡ cmdWords v ⌝ }
 {
     let phase = v.phase;
@@ -118,7 +118,7 @@ fn cmd_words(v: Cmd) -> [u64; 13]
     ]
 }
 
-fn cmd_from(w: [u64; 13]) -> Cmd
+fn cmd_from(w: [u64; words::TASK]) -> Cmd
     ensures { λ r. ⌜ r ≡ cmdOf w ⌝ }
 {
     Cmd {
@@ -289,7 +289,7 @@ fn parting_from(tag: u64, a: u64) -> Parting
 }
 
 // The task under way: its number, and what it carries. A command is looked for first, since it is polled.
-pub fn task_words(v: Task) -> [u64; 13]
+pub fn task_words(v: Task) -> [u64; words::TASK]
     ensures { λ r. ⌜ r ≡ taskWords v ⌝ }
 {
     match v {
@@ -321,7 +321,7 @@ pub fn task_words(v: Task) -> [u64; 13]
     }
 }
 
-pub fn task_from(w: [u64; 13]) -> Task
+pub fn task_from(w: [u64; words::TASK]) -> Task
     ensures { λ r. ⌜ r ≡ taskOf w ⌝ }
 {
     let tag = w[0];

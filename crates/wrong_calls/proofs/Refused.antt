@@ -7,7 +7,7 @@ use Rattle.fields.specs.Fields.{digits, putDigits}
 use Rattle.dma.specs.Blocks.{highest}
 use Rattle.dma.specs.PageList.{listAt, firstBlocks, behind}
 use Rattle.hcr.specs.Words.{isIn, waitedOf}
-use Rattle.words.specs.Words.{wordsIn, putWords, sameWords, rowsIn}
+use Rattle.words.specs.Words.{wordsIn, putWords, sameWords, rowsIn, flat}
 use Rattle.command.specs.Machine.{cmdAsks, cmdStepOf}
 use Rattle.closing_plan.specs.Plan as close
 use Rattle.client_plan.specs.Client.{over}
@@ -22,7 +22,7 @@ use Rattle.abi.specs.Calls as abi
 use Rattle.wrong_calls.specs.Wrong.{wrong, opcodes}
 
 tested : refusesAll wrong ≡ true
-unfolding refusesAll alike opcodes digits putDigits highest listAt firstBlocks behind isIn waitedOf wordsIn putWords sameWords rowsIn cmdAsks cmdStepOf over close.outboxPlan close.inboxPlan close.faPlan close.auxPlan close.icmPlan close.lentPlan close.failedPlan close.stoppedPlan close.unmapFaPlan close.unmapAuxPlan close.unmapPlan close.closeHcaPlan close.undoPlan close.stopPlan close.quiescePlan client.commandPlan client.lendPlan client.undoPlan plan.makePlan plan.fwReplied plan.bootPlan plan.preparePlan stepOf stepIn stepOut begunTurn begunInbox begunOutbox topOf anyReserved pushOf callKnown answerKnown called answered questionKnown resultKnown setupKnown booksKnown question result setup books abi.made abi.answer abi.told
+unfolding refusesAll alike opcodes digits putDigits highest listAt firstBlocks behind isIn waitedOf wordsIn putWords sameWords rowsIn flat cmdAsks cmdStepOf over close.freesPlan close.failedPlan close.stoppedPlan close.unmapFaPlan close.unmapAuxPlan close.unmapPlan close.closeHcaPlan close.undoPlan close.stopPlan close.quiescePlan client.commandPlan client.lendPlan client.undoPlan plan.makePlan plan.fwReplied plan.bootPlan plan.preparePlan stepOf stepIn stepOut begunTurn begunInbox begunOutbox topOf anyReserved pushOf callKnown answerKnown called answered questionKnown resultKnown setupKnown booksKnown question result setup books abi.made abi.answer abi.told
 tested = refl
 
 -- THE THEOREM

@@ -15,7 +15,7 @@ use Rattle.opening_plan.specs.Plan as plan
 use Rattle.wrong_session.specs.Wrong.{wrong}
 
 tested : refusesAll wrong ≡ true
-unfolding refusesAll alike over isIn cmdAsks close.outboxPlan close.inboxPlan close.faPlan close.auxPlan close.icmPlan close.lentPlan close.failedPlan close.stoppedPlan close.unmapFaPlan close.unmapAuxPlan close.unmapPlan close.closeHcaPlan close.undoPlan close.stopPlan close.quiescePlan close.closePlan client.commandPlan client.lendPlan client.undoPlan client.clientPlan plan.failPlan plan.failByPlan plan.funcPlan plan.makePlan plan.nextRange plan.mappedPlan plan.mapPlan plan.layoutPlan plan.portPlan plan.fwReplied plan.capReplied plan.portReplied plan.funcReplied plan.bootPlan plan.preparePlan digits readInto firstPow tablesFrom spotOf sortInto placeFrom totalOf firstBad tableIn
+unfolding refusesAll alike over isIn cmdAsks close.freesPlan close.failedPlan close.stoppedPlan close.unmapFaPlan close.unmapAuxPlan close.unmapPlan close.closeHcaPlan close.undoPlan close.stopPlan close.quiescePlan close.closePlan client.commandPlan client.lendPlan client.undoPlan client.clientPlan plan.failPlan plan.failByPlan plan.funcPlan plan.makePlan plan.nextRange plan.mappedPlan plan.mapPlan plan.layoutPlan plan.portPlan plan.fwReplied plan.capReplied plan.portReplied plan.funcReplied plan.bootPlan plan.preparePlan digits readInto firstPow tablesFrom spotOf sortInto placeFrom totalOf firstBad tableIn
 tested = refl
 
 -- THE THEOREM

@@ -10,7 +10,6 @@ use Rattle.words.specs.Words.{bitOf, flat}
 use Rattle.words_task.specs.Coding.{phaseWords, cmdWords, attrWords, claimWords, makingWords, freeingWords, partingWords, taskWords}
 use Rattle.words_beside.specs.Coding.{resetPhaseWords, controlWords, resetWords, askingWords}
 use Rattle.words_info.specs.Coding.{pickWords}
-use Rattle.words_books.specs.Coding.{bufferWords}
 use Rattle.words_calls.specs.Calls.{questionWords}
 use Rattle.dma.specs.declared.Buffer.{Buffer}
 use Rattle.hcr.specs.declared.Post.{Post}
@@ -404,7 +403,7 @@ abbrev buffer : Buffer
 buffer = record { handle = 7; dev = 0x5000; pages = 2 }
 
 abbrev toldBuffer : Outcome Buffer → List ℕ
-toldBuffer (value b) = 0 ∷ bufferWords b
+toldBuffer (value b) = 0 ∷ b .handle ∷ b .dev ∷ b .pages ∷ []
 toldBuffer (refused n vs) = n ∷ vs
 
 -- a buffer of two pages that is made, and one that is freed

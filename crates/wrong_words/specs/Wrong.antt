@@ -1,31 +1,34 @@
 -- WRONG ANSWERS of functions on words, as in `wrong/specs/Wrong.antt`. What is read from words is told by the words that it has.
-use Prim.Native.Nat.{ℕ, _%_}
+use Prim.Native.Nat.{ℕ, _+_, _*_, _-_, _%_}
 use mathlib.Core.Bool.{true, false}
 use mathlib.Core.List.{List, [], _∷_, _++_}
-use lib.Dec.{eqb}
+use lib.Dec.{eqb, ltb}
 use lib.ListN.{length, take, drop, replicate}
 use Rattle.fields.specs.Outcome.{Outcome, value, refused, pick, numberOf}
 use Rattle.wrong.specs.Wrong.{Row, row, yes}
-use Rattle.words.specs.Words.{at, within, wordsIn, putWords, sameWords, bitOf}
+use Rattle.words.specs.Words.{at, within, wordsIn, putWords, sameWords, bitOf, flat}
+use Rattle.words.specs.Places.{stageAt, capAt, port1At, port2At, resetAt, findAt, slotsAt, SLOT, stateWords, stateBytes}
 use Rattle.words_task.specs.Coding.{faultWords, faultOf, catasWords, catasOf, taskWords, taskOf}
 use Rattle.words_beside.specs.Coding.{resetWords, resetOf, findWords, findOf}
 use Rattle.words_info.specs.Coding.{pickOf, funcOf, toldWords, toldOf, capWords, capOf, portWords, portOf}
 use Rattle.words_stage.specs.Coding.{stageWords, stageOf}
-use Rattle.words_books.specs.Coding.{refusalWords, refusalOf, bufferWords, bufferOf, ledgerWords, ledgerOf}
+use Rattle.words_books.specs.Coding.{refusalWords, refusalOf, slotWords, slotOf, ledgerWords, ledgerOf}
 use Rattle.words_books.specs.declared.Ledger.{Ledger}
-use Rattle.words_session.specs.Image.{toldFor, decodeOf, wroteOf, encodedIn, putSession}
+use Rattle.behind.specs.Behind.{behindIn, putPart, slotPut, begunIn, slotsStand}
+use Rattle.words_session.specs.Image.{coreOf, headIn, headStands, putHead, putTask, decodeOf, encodedIn, putSession}
 use Rattle.words_calls.specs.Calls.{questionWords, turnIn, heardOf}
 use Rattle.in_place.specs.InPlace.{nextOf, readyFor, goesOn, stateAfter, outAfter}
 use Rattle.in_place.specs.declared.Next.{Next}
 use Rattle.in_place.specs.declared.Next.the-variants as nx
 use Rattle.results.specs.Results.{outcomeWords, merged, portsOf, putSaid, setupIn}
+use Rattle.results.specs.Books.{areaWords, areasWords, rangesOf, lentOf, booksIn}
 use Rattle.bars.specs.declared.BarRange.{BarRange}
 use Rattle.bars.specs.declared.BarRange.the-variants as br
 use Rattle.bars.specs.declared.Candidate.{Candidate}
 use Rattle.bars.specs.declared.Asking.the-variants as ba
-use Rattle.dma.specs.declared.Buffer.{Buffer}
 use Rattle.dma.specs.declared.Virt.the-variants as lv
 use Rattle.hcr.specs.declared.Post.{Post}
+use Rattle.reply.specs.declared.PortInfo.{PortInfo}
 use Rattle.pci.specs.declared.Question.the-variants as q
 use Rattle.pci.specs.declared.Answer.{Answer}
 use Rattle.pci.specs.declared.Answer.the-variants as a
@@ -47,8 +50,10 @@ use Rattle.uar.specs.declared.BarPhase.the-variants as up
 use Rattle.uar.specs.declared.FindBar.{FindBar}
 use Rattle.work.specs.declared.Task.{Task}
 use Rattle.work.specs.declared.Task.the-variants as wt
-use Rattle.session.specs.Session.{fresh, starts}
-use Rattle.session.specs.declared.Hold.the-variants as o
+use Rattle.session.specs.Session.{fresh, starts, noSlot, bare, mappedAt, slotAt}
+use Rattle.session.specs.Core.{startOf}
+use Rattle.session.specs.declared.Slot.{Slot}
+use Rattle.session.specs.declared.Core.{Core}
 use Rattle.session.specs.declared.Info.{Info}
 use Rattle.session.specs.declared.Area.the-variants as ar
 use Rattle.session.specs.declared.Prepare.the-variants as pr
@@ -61,6 +66,7 @@ use Rattle.session.specs.declared.Stage.{Stage}
 use Rattle.session.specs.declared.Stage.the-variants as st
 use Rattle.session.specs.declared.Failure.the-variants as fa
 use Rattle.session.specs.declared.Closing.the-variants as co
+use Rattle.fw_plan.specs.Calls.{outcomeOf}
 use Rattle.fw_plan.specs.declared.Outcome.the-variants as u
 
 abbrev zeros : ℕ → List ℕ
@@ -203,8 +209,6 @@ infos =
     row (toldWords (record { uar = pickOf 2 0 0x2000 1; func = funcOf 40 41 42; rev3 = true })) (2 ∷ 0 ∷ 0 ∷ 1 ∷ 40 ∷ 41 ∷ 42 ∷ 1 ∷ []) (2 ∷ 0 ∷ 0x2000 ∷ 1 ∷ 40 ∷ 41 ∷ 42 ∷ 0 ∷ []) ∷
     -- told_from: how it was chosen is lost; EQs change places
     row (toldWords (toldOf (2 ∷ 0 ∷ 0x2000 ∷ 1 ∷ 40 ∷ 41 ∷ 42 ∷ 1 ∷ []))) (2 ∷ 0 ∷ 0x2000 ∷ 0 ∷ 40 ∷ 41 ∷ 42 ∷ 1 ∷ []) (2 ∷ 0 ∷ 0x2000 ∷ 1 ∷ 41 ∷ 40 ∷ 42 ∷ 1 ∷ []) ∷
-    -- told_of: QUERY_DEV_CAP's EQs for QUERY_FUNC's; the revision is lost
-    row (toldWords (toldFor info)) (2 ∷ 0 ∷ 0x2000 ∷ 1 ∷ 4 ∷ 5 ∷ 8 ∷ 1 ∷ []) (2 ∷ 0 ∷ 0x2000 ∷ 1 ∷ 40 ∷ 41 ∷ 42 ∷ 0 ∷ []) ∷
     -- cap_words and cap_from, the first 17: the flags are read from the next word; a word is lost
     row (take 17 (capWords (capOf rising))) (take 14 rising ++ (16 ∷ 16 ∷ 17 ∷ [])) (take 13 rising ++ (15 ∷ 16 ∷ 17 ∷ 18 ∷ [])) ∷
     -- and the rest, with one of the two bits set: the bits change places; the sizes are read one word early
@@ -214,9 +218,6 @@ infos =
     []
 
 -- HOW FAR A SESSION HAS COME
-abbrev buffer : Buffer
-buffer = record { handle = 7; dev = 0x5000; pages = 2 }
-
 -- the first three words of a stage
 abbrev stage : Stage → List ℕ
 stage x = take 3 (stageWords x)
@@ -227,32 +228,38 @@ stageRead w = stageWords (stageOf w)
 abbrev pub stages : List Row
 stages =
     -- stage_words, the numbers: fresh and ended change places; a close for a client's call
-    row (stage st.Fresh ++ (stage (st.Open ga.Nothing) ++ (stage st.Ended ++ (stage (st.Close cl.CloseHca) ++ stage (st.Client ci.Lend)))))
-    (2 ∷ 0 ∷ 0 ∷ 1 ∷ 0 ∷ 0 ∷ 0 ∷ 0 ∷ 0 ∷ 5 ∷ 1 ∷ 0 ∷ 6 ∷ 1 ∷ 0 ∷ []) (0 ∷ 0 ∷ 0 ∷ 1 ∷ 0 ∷ 0 ∷ 2 ∷ 0 ∷ 0 ∷ 5 ∷ 1 ∷ 0 ∷ 5 ∷ 1 ∷ 0 ∷ []) ∷
+    row (stage st.Fresh ++ (stage (st.Open ga.Nothing) ++ (stage st.Ended ++ (stage (st.Close cl.CloseHca) ++ stage (st.Client (ci.Lend 9))))))
+    (2 ∷ 0 ∷ 0 ∷ 1 ∷ 0 ∷ 0 ∷ 0 ∷ 0 ∷ 0 ∷ 6 ∷ 1 ∷ 0 ∷ 5 ∷ 1 ∷ 9 ∷ []) (0 ∷ 0 ∷ 0 ∷ 1 ∷ 0 ∷ 0 ∷ 2 ∷ 0 ∷ 0 ∷ 6 ∷ 1 ∷ 0 ∷ 6 ∷ 1 ∷ 9 ∷ []) ∷
+    -- of a buffer that is lent, in slot 9: which slot is lost; the slot behind
+    row (stage (st.Client (ci.Lend 9))) (5 ∷ 1 ∷ 0 ∷ []) (5 ∷ 1 ∷ 10 ∷ []) ∷
     -- of an undo down to a mark: the mark is not kept; mark and count change places
-    row (take 4 (stageWords (st.Client (ci.UndoTo 5 6)))) (6 ∷ 2 ∷ 6 ∷ 6 ∷ []) (6 ∷ 2 ∷ 6 ∷ 5 ∷ []) ∷
+    row (take 4 (stageWords (st.Client (ci.UndoTo 5 6)))) (5 ∷ 2 ∷ 6 ∷ 6 ∷ []) (5 ∷ 2 ∷ 6 ∷ 5 ∷ []) ∷
     -- of a range that is mapped: the host address of what is left to cut is not kept; the card address is lost
     row (stageWords (st.Boot (bo.Map (ar.Range 3) (record { virt = lv.At 9; phys = 10; left = 11 })))) (4 ∷ 2 ∷ 2 ∷ 3 ∷ 0 ∷ 9 ∷ 11 ∷ 11 ∷ []) (4 ∷ 2 ∷ 2 ∷ 3 ∷ 1 ∷ 0 ∷ 10 ∷ 11 ∷ []) ∷
-    -- of the inbox given back: the fault is lost; the outbox
-    row (stage (st.Prepare (pr.GiveInbox f.Address))) (3 ∷ 6 ∷ 0 ∷ []) (3 ∷ 5 ∷ 1 ∷ []) ∷
+    -- of the outbox, and of the first look: they change places; the inbox for the outbox
+    row (stage (st.Prepare pr.Outbox) ++ stage (st.Prepare pr.Look)) (3 ∷ 6 ∷ 0 ∷ 3 ∷ 5 ∷ 0 ∷ []) (3 ∷ 4 ∷ 0 ∷ 3 ∷ 6 ∷ 0 ∷ []) ∷
     -- of QUERY_PORT, and of INIT_HCA: the port is lost; RUN_FW for INIT_HCA
     row (stage (st.Boot (bo.Port 2)) ++ stage (st.Boot bo.InitHca)) (4 ∷ 6 ∷ 0 ∷ 4 ∷ 8 ∷ 0 ∷ []) (4 ∷ 6 ∷ 2 ∷ 4 ∷ 3 ∷ 0 ∷ []) ∷
-    -- of a lent buffer, a range, the release and the quiesce: which one is lost; a range for a lent buffer
-    row (stage (st.Close (cl.FreeLent 5)) ++ (stage (st.Close (cl.FreeIcm 6)) ++ (stage (st.Close cl.Release) ++ stage (st.Close cl.Quiesce))))
-    (5 ∷ 6 ∷ 0 ∷ 5 ∷ 7 ∷ 0 ∷ 5 ∷ 12 ∷ 0 ∷ 5 ∷ 14 ∷ 0 ∷ []) (5 ∷ 7 ∷ 5 ∷ 5 ∷ 7 ∷ 6 ∷ 5 ∷ 12 ∷ 0 ∷ 5 ∷ 14 ∷ 0 ∷ []) ∷
+    -- of a slot that is freed, of a range that is unmapped, the release and the quiesce: which one is lost; an unmapping for a freeing
+    row (stage (st.Close (cl.Free 65)) ++ (stage (st.Close (cl.Unmap 6)) ++ (stage (st.Close cl.Release) ++ stage (st.Close cl.Quiesce))))
+    (6 ∷ 7 ∷ 0 ∷ 6 ∷ 2 ∷ 0 ∷ 6 ∷ 8 ∷ 0 ∷ 6 ∷ 5 ∷ 0 ∷ []) (6 ∷ 2 ∷ 65 ∷ 6 ∷ 2 ∷ 6 ∷ 6 ∷ 8 ∷ 0 ∷ 6 ∷ 5 ∷ 0 ∷ []) ∷
     -- of the forms of a command: with input and with output change places; the last is the first
     row (stage (st.Client (ci.Command fo.WithIn)) ++ (stage (st.Client (ci.Command fo.WithOut)) ++ stage (st.Client (ci.Command fo.InOut))))
-    (6 ∷ 0 ∷ 2 ∷ 6 ∷ 0 ∷ 1 ∷ 6 ∷ 0 ∷ 4 ∷ []) (6 ∷ 0 ∷ 1 ∷ 6 ∷ 0 ∷ 2 ∷ 6 ∷ 0 ∷ 0 ∷ []) ∷
+    (5 ∷ 0 ∷ 2 ∷ 5 ∷ 0 ∷ 1 ∷ 5 ∷ 0 ∷ 4 ∷ []) (5 ∷ 0 ∷ 1 ∷ 5 ∷ 0 ∷ 2 ∷ 5 ∷ 0 ∷ 0 ∷ []) ∷
     -- stage_from of an ended session: a fresh one; an open one
     row (stageRead (2 ∷ zeros 7)) (zeros 8) (1 ∷ zeros 7) ∷
     -- of why a call failed: read as a buffer that it lent; the number is lost
-    row (stageRead (1 ∷ 3 ∷ 5 ∷ 2 ∷ 50 ∷ zeros 3)) (1 ∷ 2 ∷ 5 ∷ 2 ∷ 50 ∷ zeros 3) (1 ∷ 3 ∷ 0 ∷ 0 ∷ 0 ∷ zeros 3) ∷
+    row (stageRead (1 ∷ 3 ∷ 5 ∷ 2 ∷ 50 ∷ zeros 3)) (1 ∷ 2 ∷ 5 ∷ 0 ∷ 0 ∷ zeros 3) (1 ∷ 3 ∷ 0 ∷ 0 ∷ 0 ∷ zeros 3) ∷
+    -- of a buffer that was lent, in slot 9: the slot is lost; nothing
+    row (stageRead (1 ∷ 2 ∷ 9 ∷ zeros 5)) (1 ∷ 2 ∷ zeros 6) (1 ∷ zeros 7) ∷
+    -- of slot 81 that is freed: the slot before; released
+    row (stageRead (6 ∷ 7 ∷ 81 ∷ zeros 5)) (6 ∷ 7 ∷ 80 ∷ zeros 5) (6 ∷ 8 ∷ zeros 6) ∷
     -- of a command's end: immediate and microseconds change places; nothing
     row (stageRead (1 ∷ 1 ∷ 5 ∷ 9 ∷ zeros 4)) (1 ∷ 1 ∷ 9 ∷ 5 ∷ zeros 4) (1 ∷ zeros 7) ∷
     -- of a range that is mapped: what is left for the host address; the auxiliary area
     row (stageRead (4 ∷ 2 ∷ 2 ∷ 3 ∷ 0 ∷ 9 ∷ 10 ∷ 11 ∷ [])) (4 ∷ 2 ∷ 2 ∷ 3 ∷ 0 ∷ 9 ∷ 11 ∷ 11 ∷ []) (4 ∷ 2 ∷ 1 ∷ 0 ∷ 0 ∷ 9 ∷ 10 ∷ 11 ∷ []) ∷
     -- of an undo down to a mark: mark and count change places; a command
-    row (stageRead (6 ∷ 2 ∷ 5 ∷ 6 ∷ zeros 4)) (6 ∷ 2 ∷ 6 ∷ 5 ∷ zeros 4) (6 ∷ 0 ∷ 0 ∷ 0 ∷ zeros 4) ∷
+    row (stageRead (5 ∷ 2 ∷ 5 ∷ 6 ∷ zeros 4)) (5 ∷ 2 ∷ 6 ∷ 5 ∷ zeros 4) (5 ∷ 0 ∷ 0 ∷ 0 ∷ zeros 4) ∷
     []
 
 -- THE BOOKS
@@ -264,14 +271,17 @@ ledger =
       started = true;
       original = 5;
       wire = record { toggle = true; running = false; broken = true; silent = false; catas = ck.Known 2 0x100 };
-      held = record { inbox = o.Held buffer; outbox = o.Absent; fa = o.Absent; aux = o.Absent };
       failure = fa.By (r.Status 2 50);
       closing = co.Kept;
     }
 
 -- its words behind the two counts, with the bits of broken and silent
 abbrev ledgerTail : (broken silent : ℕ) → List ℕ
-ledgerTail b s = 1 ∷ 5 ∷ 1 ∷ 0 ∷ b ∷ s ∷ 0 ∷ 2 ∷ 0x100 ∷ 1 ∷ 7 ∷ 0x5000 ∷ 2 ∷ (zeros 12 ++ (1 ∷ 5 ∷ 2 ∷ 50 ∷ 2 ∷ []))
+ledgerTail b s = 1 ∷ 5 ∷ 1 ∷ 0 ∷ b ∷ s ∷ 0 ∷ 2 ∷ 0x100 ∷ 1 ∷ 5 ∷ 2 ∷ 50 ∷ 2 ∷ []
+
+-- a range of two pages in its slot, mapped
+abbrev held : Slot
+held = mappedAt (bare 9 7 2) 5
 
 abbrev refusalRead : (tag a b : ℕ) → List ℕ
 refusalRead t x y = refusalWords (refusalOf t x y)
@@ -286,10 +296,10 @@ books =
     row (refusalRead 6 50 0 ++ (refusalRead 7 0 0 ++ refusalRead 8 3 0)) (8 ∷ 50 ∷ 0 ∷ 7 ∷ 0 ∷ 0 ∷ 8 ∷ 3 ∷ 0 ∷ []) (6 ∷ 0 ∷ 0 ∷ 7 ∷ 0 ∷ 0 ∷ 8 ∷ 3 ∷ 0 ∷ []) ∷
     -- refusal_from (a status, one past the last): they change places; the last
     row (refusalRead 5 2 50 ++ refusalRead 23 0 0) (5 ∷ 50 ∷ 2 ∷ 0 ∷ 0 ∷ 0 ∷ []) (5 ∷ 2 ∷ 50 ∷ 22 ∷ 0 ∷ 0 ∷ []) ∷
-    -- buffer_words: the pages for the device address; the handle for it
-    row (bufferWords buffer) (7 ∷ 2 ∷ 2 ∷ []) (7 ∷ 7 ∷ 2 ∷ []) ∷
-    -- buffer_from: the handle as the device address; pages and address change places
-    row (bufferWords (bufferOf 7 0x5000 2)) (7 ∷ 7 ∷ 2 ∷ []) (7 ∷ 2 ∷ 0x5000 ∷ []) ∷
+    -- slot_words: handle and card address change places; it is not kept whether it is mapped
+    row (slotWords held) (1 ∷ 7 ∷ 9 ∷ 5 ∷ 2 ∷ 1 ∷ []) (1 ∷ 9 ∷ 7 ∷ 5 ∷ 2 ∷ 0 ∷ []) ∷
+    -- slot_from: the handle as the device address; an empty slot
+    row (slotWords (slotOf (1 ∷ 9 ∷ 7 ∷ 5 ∷ 2 ∷ 1 ∷ []))) (1 ∷ 9 ∷ 7 ∷ 7 ∷ 2 ∷ 1 ∷ []) (0 ∷ 9 ∷ 7 ∷ 5 ∷ 2 ∷ 1 ∷ []) ∷
     -- ledger_words: the count of ranges is kept twice; broken is kept as silent
     row (ledgerWords ledger) (3 ∷ 3 ∷ ledgerTail 1 0) (3 ∷ 4 ∷ ledgerTail 0 0) ∷
     -- ledger_from: the counts change places; broken and silent do
@@ -366,7 +376,7 @@ nexts p i n x = toldNext (nextOf (tenWords p i n) x)
 
 -- what is lent, with an outbox of so many bytes, and so many undo records
 abbrev lends : (outbox undo : ℕ) → ℕ
-lends n m = yes (readyFor (zeros 3336) (zeros 4096) (zeros n) m (zeros 40))
+lends n m = yes (readyFor (zeros stateBytes) (zeros 4096) (zeros n) m (zeros 40))
 
 abbrev pub goingOn : List Row
 goingOn =
@@ -416,35 +426,162 @@ goingOn =
     row (wordsIn (outAfter (nx.Low 1) (ten 8 0) (zeros 40) 9) 0 5) (5 ∷ 0 ∷ 0x8068c ∷ 0 ∷ 9 ∷ []) (9 ∷ 1 ∷ 0 ∷ 0 ∷ 9 ∷ []) ∷
     []
 
--- SESSIONS
-abbrev pub sessions : List Row
-sessions =
-    -- decode of too few bytes: 20; a session
-    row (numberOf (decodeOf (zeros 8)) ∷ []) (20 ∷ []) (0 ∷ []) ∷
-    -- decode of a session, 3,336 zeros: every session is refused; too few bytes
-    row (numberOf (decodeOf (zeros 3336)) ∷ []) (20 ∷ []) (21 ∷ []) ∷
-    -- encode into too few bytes: done; 20
-    row (numberOf (wroteOf (zeros 8)) ∷ []) (0 ∷ []) (20 ∷ []) ∷
-    -- encode into too few bytes, the bytes then: the task; its last byte alone
-    row (encodedIn (9 ∷ zeros 7) (starts fresh st.Fresh wt.Look)) (zeros 7 ++ (7 ∷ [])) (9 ∷ (zeros 6 ++ (7 ∷ []))) ∷
-    -- encode, words 0 and 1 then: the session stands from word 1 on; the task is lost
-    row (wordsIn (putSession (zeros 16) (starts fresh st.Fresh wt.Look)) 0 2) (0 ∷ 7 ∷ []) (0 ∷ 0 ∷ []) ∷
+-- THE IMAGE, all words 0 but those from word k on, each of one byte
+abbrev low : List ℕ → List ℕ
+low ws = flat (λ (x : ℕ). x ∷ zeros 7) ws
+
+abbrev image : (k : ℕ) → List ℕ → List ℕ
+image k ws = zeros (k * 8) ++ (low ws ++ zeros ((stateWords - (k + length ws)) * 8))
+
+-- too few bytes; and one word
+abbrev few : List ℕ
+few = 9 ∷ zeros 7
+
+abbrev oneAt : ℕ → List ℕ → List ℕ
+oneAt k xs = wordsIn xs k 1
+
+-- BEHIND THE HEAD
+abbrev slotIn : List ℕ → ℕ → List ℕ
+slotIn xs i = slotWords (slotAt (behindIn xs .slots) i)
+
+abbrev slotOne : List ℕ
+slotOne = image (slotsAt + SLOT) (1 ∷ 9 ∷ 7 ∷ 5 ∷ 2 ∷ 1 ∷ [])
+
+abbrev linked : List ℕ
+linked = image resetAt (4 ∷ 0x40 ∷ 7 ∷ [])
+
+abbrev searching : List ℕ
+searching = image findAt (0 ∷ 3 ∷ [])
+
+abbrev portAt : List ℕ → ℕ → PortInfo
+portAt xs i = pick (eqb i 1) (behindIn xs .port1) (behindIn xs .port2)
+
+abbrev portPut : ℕ → List ℕ → List ℕ
+portPut i xs = putPart (pick (eqb i 1) port1At port2At) (portWords (portOf rising)) xs
+
+abbrev pub behinds : List Row
+behinds =
+    -- slot_at (slot 1, slot 0): the slot before; every slot the first that is held
+    row (slotIn slotOne 1 ++ slotIn slotOne 0) (zeros 12) (1 ∷ 9 ∷ 7 ∷ 5 ∷ 2 ∷ 1 ∷ 1 ∷ 9 ∷ 7 ∷ 5 ∷ 2 ∷ 1 ∷ []) ∷
+    -- slot_at, behind the last slot, and of too few bytes: the last one; what is there
+    row (slotIn (image (slotsAt + 81 * SLOT) (1 ∷ 9 ∷ 7 ∷ 5 ∷ 2 ∷ 1 ∷ [])) 82 ++ slotIn few 0) (1 ∷ 9 ∷ 7 ∷ 5 ∷ 2 ∷ 1 ∷ zeros 6) (zeros 6 ++ (9 ∷ zeros 5)) ∷
+    -- put_slot, slot 0: one word early; nothing
+    row (oneAt slotsAt (slotPut 0 held (zeros stateBytes))) (9 ∷ []) (0 ∷ []) ∷
+    -- put_slot, behind the last slot (the last one's words), and into too few bytes: the last one; the first byte
+    row (wordsIn (slotPut 82 held (zeros stateBytes)) (slotsAt + 81 * SLOT) 6 ++ slotPut 0 held few) (1 ∷ 9 ∷ 7 ∷ 5 ∷ 2 ∷ 1 ∷ few) (zeros 6 ++ (1 ∷ zeros 7)) ∷
+    -- reset_at (its first three words): as it begins; one word late
+    row (take 3 (resetWords (behindIn linked .reset))) (0 ∷ 15 ∷ 0 ∷ []) (0x40 ∷ 7 ∷ 0 ∷ []) ∷
+    -- reset_at of too few bytes: what is there; on its way
+    row (take 3 (resetWords (behindIn few .reset))) (0 ∷ 0 ∷ 0 ∷ []) (4 ∷ 0x40 ∷ 7 ∷ []) ∷
+    -- put_reset: one word early; nothing
+    row (oneAt resetAt (putPart resetAt (resetWords reset) (zeros stateBytes))) (0x40 ∷ []) (0 ∷ []) ∷
+    -- put_reset into too few bytes: its first word; zeros
+    row (putPart resetAt (resetWords reset) few) (4 ∷ zeros 7) (zeros 8) ∷
+    -- find_at: as it begins; from the reset's words
+    row (take 2 (findWords (behindIn searching .find))) (0 ∷ 5 ∷ []) (0 ∷ 0 ∷ []) ∷
+    -- find_at of too few bytes: what is there; done
+    row (take 2 (findWords (behindIn few .find))) (0 ∷ 0 ∷ []) (1 ∷ 0 ∷ []) ∷
+    -- put_find: one word early; nothing
+    row (oneAt findAt (putPart findAt (findWords (find choosing)) (zeros stateBytes))) (0x50 ∷ []) (0 ∷ []) ∷
+    -- put_find into too few bytes: its first word; zeros
+    row (putPart findAt (findWords (find choosing)) few) (1 ∷ zeros 7) (zeros 8) ∷
+    -- cap_at: none; one word late
+    row (take 3 (capWords (behindIn (image capAt (1 ∷ 2 ∷ 3 ∷ [])) .cap))) (0 ∷ 0 ∷ 0 ∷ []) (2 ∷ 3 ∷ 0 ∷ []) ∷
+    -- put_cap: one word early; nothing
+    row (oneAt capAt (putPart capAt (capWords (capOf rising)) (zeros stateBytes))) (2 ∷ []) (0 ∷ []) ∷
+    -- put_cap into too few bytes: its first word; zeros
+    row (putPart capAt (capWords (capOf rising)) few) (1 ∷ zeros 7) (zeros 8) ∷
+    -- port_at (port 1, port 2): the ports change places; port 1 for both
+    row (at (portWords (portAt (image port1At (1 ∷ [])) 1)) 0 ∷ at (portWords (portAt (image port1At (1 ∷ [])) 2)) 0 ∷ []) (0 ∷ 1 ∷ []) (1 ∷ 1 ∷ []) ∷
+    -- put_port, port 2 (the first word of port 1): as port 1; one word early
+    row (oneAt port1At (portPut 2 (image port1At (9 ∷ [])))) (1 ∷ []) (2 ∷ []) ∷
+    -- put_port into too few bytes: its first word; zeros
+    row (portPut 1 few) (1 ∷ zeros 7) (zeros 8) ∷
+    -- begin, a reset in a closing: it goes on; its words are cleared
+    row (oneAt (resetAt + 1) (begunIn (st.Close cl.Reset) wt.Reset linked)) (0x40 ∷ []) (0 ∷ []) ∷
+    -- begin, the search before bring-up: it goes on; its words are cleared
+    row (oneAt (findAt + 1) (begunIn (st.Prepare pr.Bar) wt.Bar searching)) (3 ∷ []) (0 ∷ []) ∷
+    -- begin, another task: a reset begins with it; the words are cleared
+    row (oneAt (resetAt + 1) (begunIn (st.Close cl.Reset) wt.Look linked)) (15 ∷ []) (0 ∷ []) ∷
+    -- slots_stand (a slot whose word `mapped` is 2, and too few bytes): any word stands; too few bytes do
+    row (yes (slotsStand (image (slotsAt + 5) (2 ∷ []))) ∷ yes (slotsStand few) ∷ []) (1 ∷ 0 ∷ []) (0 ∷ 1 ∷ []) ∷
     []
 
--- RESULTS
+-- SESSIONS
+abbrev looking : Core
+looking = startOf (coreOf fresh) (st.Prepare pr.Look) wt.Look
+
+-- the numbers of a head's task and stage
+abbrev headNos : List ℕ → List ℕ
+headNos xs = taskNo (headIn xs .task) ∷ stage (headIn xs .stage)
+
+abbrev fits : List ℕ → Core → ℕ
+fits xs c = yes (pick (ltb (length xs) stateBytes) false (headStands xs c))
+
+abbrev pub sessions : List Row
+sessions =
+    -- head_at, a head that looks: a fresh one; from one word late
+    row (headNos (image 0 (7 ∷ (zeros 12 ++ (3 ∷ 6 ∷ []))))) (0 ∷ 0 ∷ 0 ∷ 0 ∷ []) (0 ∷ 6 ∷ 0 ∷ 0 ∷ []) ∷
+    -- head_at of too few bytes (and its toggle): what is there; toggle 0
+    row (headNos few ++ (yes (headIn few .wire .toggle) ∷ [])) (9 ∷ 0 ∷ 0 ∷ 0 ∷ 1 ∷ []) (0 ∷ 0 ∷ 0 ∷ 0 ∷ 0 ∷ []) ∷
+    -- head_stands (the head that they stand for, another, and too few bytes): another stands too; too few bytes stand for any
+    row (fits (zeros stateBytes) (headIn (zeros stateBytes)) ∷ fits (zeros stateBytes) looking ∷ fits few looking ∷ []) (1 ∷ 1 ∷ 0 ∷ []) (1 ∷ 0 ∷ 1 ∷ []) ∷
+    -- head_stands, 14 and 15 ranges: one range more; one fewer
+    row (fits (image 21 (14 ∷ [])) (headIn (image 21 (14 ∷ []))) ∷ fits (image 21 (15 ∷ [])) (headIn (image 21 (15 ∷ []))) ∷ []) (1 ∷ 1 ∷ []) (0 ∷ 0 ∷ []) ∷
+    -- head_stands, 64 and 65 lent: one more; one fewer
+    row (fits (image 22 (64 ∷ [])) (headIn (image 22 (64 ∷ []))) ∷ fits (image 22 (65 ∷ [])) (headIn (image 22 (65 ∷ []))) ∷ []) (1 ∷ 1 ∷ []) (0 ∷ 0 ∷ []) ∷
+    -- put_head (the stage's first word): the task alone; one word early
+    row (oneAt stageAt (putHead looking (zeros stateBytes))) (0 ∷ []) (6 ∷ []) ∷
+    -- put_head into too few bytes: its first word; zeros
+    row (putHead looking few) (7 ∷ zeros 7) (zeros 8) ∷
+    -- put_task (the task's first word, and the stage's): the head of a fresh session with it; nothing
+    row (oneAt 0 (putTask wt.Look (image stageAt (3 ∷ 6 ∷ []))) ++ oneAt stageAt (putTask wt.Look (image stageAt (3 ∷ 6 ∷ [])))) (7 ∷ 0 ∷ []) (0 ∷ 3 ∷ []) ∷
+    -- put_task into too few bytes: its first word; zeros
+    row (putTask wt.Look few) (7 ∷ zeros 7) (zeros 8) ∷
+    -- keeps, too few bytes: 20; a session
+    row (numberOf (decodeOf (zeros 8)) ∷ []) (20 ∷ []) (0 ∷ []) ∷
+    -- keeps, a session, all words 0: every session is refused; too few bytes
+    row (numberOf (decodeOf (zeros stateBytes)) ∷ []) (20 ∷ []) (21 ∷ []) ∷
+    -- keeps, a task of no number: a session; too few bytes
+    row (numberOf (decodeOf (image 0 (10 ∷ []))) ∷ []) (0 ∷ []) (21 ∷ []) ∷
+    -- keeps, a slot whose word `mapped` is 2: a session; too few bytes
+    row (numberOf (decodeOf (image (slotsAt + 5) (2 ∷ []))) ∷ []) (0 ∷ []) (21 ∷ []) ∷
+    -- put_fresh into too few bytes: the words of the head that fit; zeros
+    row (encodedIn (9 ∷ 9 ∷ zeros 6) fresh) (0 ∷ 0 ∷ zeros 6) (0 ∷ 9 ∷ zeros 6) ∷
+    -- put_fresh, words 0 and 1 then: a task under way; only the first
+    row (wordsIn (putSession (low (8 ∷ 9 ∷ [])) fresh) 0 2) (8 ∷ 0 ∷ []) (0 ∷ 9 ∷ []) ∷
+    []
+
+-- RESULTS. Slots with an inbox alone; with a range and two lent buffers
+abbrev boxed : List Slot
+boxed = replicate 80 noSlot ++ (held ∷ noSlot ∷ [])
+
+abbrev threeHeld : List Slot
+threeHeld = bare 0 7 2 ∷ noSlot ∷ bare 0 8 1 ∷ (replicate 61 noSlot ++ (held ∷ replicate 17 noSlot))
+
+-- what has become of a session, of a head in this stage
+abbrev became : Stage → List ℕ
+became x = outcomeWords [] (outcomeOf (starts fresh x wt.Rest))
+
 abbrev pub results : List Row
 results =
     -- outcome_words (a failed opening, a close): a failed opening is told as closed; the refusal's number is lost
-    row (outcomeWords (u.Failed r.Memory co.Reset) ++ outcomeWords (u.Closed co.Reset)) (4 ∷ 5 ∷ 0 ∷ 0 ∷ 1 ∷ 4 ∷ 0 ∷ 0 ∷ 0 ∷ 1 ∷ []) (3 ∷ 0 ∷ 0 ∷ 0 ∷ 1 ∷ 4 ∷ 0 ∷ 0 ∷ 0 ∷ 1 ∷ []) ∷
+    row (outcomeWords [] (u.Failed r.Memory co.Reset) ++ outcomeWords [] (u.Closed co.Reset)) (4 ∷ 5 ∷ 0 ∷ 0 ∷ 1 ∷ 4 ∷ 0 ∷ 0 ∷ 0 ∷ 1 ∷ []) (3 ∷ 0 ∷ 0 ∷ 0 ∷ 1 ∷ 4 ∷ 0 ∷ 0 ∷ 0 ∷ 1 ∷ []) ∷
     -- outcome_words of a closing (clean, reset, kept): one that kept everything is told as a reset; as clean
-    row (outcomeWords (u.Closed co.Clean) ++ (outcomeWords (u.Closed co.Reset) ++ outcomeWords (u.Closed co.Kept)))
+    row (outcomeWords [] (u.Closed co.Clean) ++ (outcomeWords [] (u.Closed co.Reset) ++ outcomeWords [] (u.Closed co.Kept)))
     (4 ∷ 0 ∷ 0 ∷ 0 ∷ 0 ∷ 4 ∷ 0 ∷ 0 ∷ 0 ∷ 1 ∷ 4 ∷ 0 ∷ 0 ∷ 0 ∷ 1 ∷ []) (4 ∷ 0 ∷ 0 ∷ 0 ∷ 0 ∷ 4 ∷ 0 ∷ 0 ∷ 0 ∷ 1 ∷ 4 ∷ 0 ∷ 0 ∷ 0 ∷ 0 ∷ []) ∷
     -- outcome_words of a status: status and microseconds change places; as a failed opening
-    row (outcomeWords (u.Opened (ga.Failed (r.Status 2 50)))) (7 ∷ 6 ∷ 50 ∷ 2 ∷ 0 ∷ []) (3 ∷ 6 ∷ 2 ∷ 50 ∷ 0 ∷ []) ∷
+    row (outcomeWords [] (u.Opened (ga.Failed (r.Status 2 50)))) (7 ∷ 6 ∷ 50 ∷ 2 ∷ 0 ∷ []) (3 ∷ 6 ∷ 2 ∷ 50 ∷ 0 ∷ []) ∷
     -- outcome_words of a command, and of a buffer: immediate and microseconds change places; handle and address do
-    row (outcomeWords (u.Opened (ga.Command 5 9)) ++ outcomeWords (u.Opened (ga.Lent buffer))) (5 ∷ 9 ∷ 5 ∷ 0 ∷ 0 ∷ 6 ∷ 7 ∷ 0x5000 ∷ 2 ∷ 0 ∷ []) (5 ∷ 5 ∷ 9 ∷ 0 ∷ 0 ∷ 6 ∷ 0x5000 ∷ 7 ∷ 2 ∷ 0 ∷ []) ∷
+    row (outcomeWords [] (u.Opened (ga.Command 5 9)) ++ outcomeWords (noSlot ∷ held ∷ []) (u.Opened (ga.Lent 1))) (5 ∷ 9 ∷ 5 ∷ 0 ∷ 0 ∷ 6 ∷ 7 ∷ 5 ∷ 2 ∷ 0 ∷ []) (5 ∷ 5 ∷ 9 ∷ 0 ∷ 0 ∷ 6 ∷ 5 ∷ 7 ∷ 2 ∷ 0 ∷ []) ∷
+    -- outcome_words of a buffer, in slot 1: the slot before; its number
+    row (outcomeWords (noSlot ∷ held ∷ []) (u.Opened (ga.Lent 1))) (6 ∷ 0 ∷ 0 ∷ 0 ∷ 0 ∷ []) (6 ∷ 1 ∷ 0 ∷ 0 ∷ 0 ∷ []) ∷
     -- outcome_words (not opened yet, running, open): not opened is told as running; open as running
-    row (outcomeWords u.Fresh ++ (outcomeWords u.Running ++ outcomeWords (u.Opened ga.Nothing))) (1 ∷ 0 ∷ 0 ∷ 0 ∷ 0 ∷ 1 ∷ 0 ∷ 0 ∷ 0 ∷ 0 ∷ 2 ∷ 0 ∷ 0 ∷ 0 ∷ 0 ∷ []) (0 ∷ 0 ∷ 0 ∷ 0 ∷ 0 ∷ 1 ∷ 0 ∷ 0 ∷ 0 ∷ 0 ∷ 1 ∷ 0 ∷ 0 ∷ 0 ∷ 0 ∷ []) ∷
+    row (outcomeWords [] u.Fresh ++ (outcomeWords [] u.Running ++ outcomeWords [] (u.Opened ga.Nothing))) (1 ∷ 0 ∷ 0 ∷ 0 ∷ 0 ∷ 1 ∷ 0 ∷ 0 ∷ 0 ∷ 0 ∷ 2 ∷ 0 ∷ 0 ∷ 0 ∷ 0 ∷ []) (0 ∷ 0 ∷ 0 ∷ 0 ∷ 0 ∷ 1 ∷ 0 ∷ 0 ∷ 0 ∷ 0 ∷ 1 ∷ 0 ∷ 0 ∷ 0 ∷ 0 ∷ []) ∷
+    -- outcome (in bring-up, ended): in bring-up it is open; ended it runs
+    row (at (became (st.Boot bo.RunFw)) 0 ∷ at (became st.Ended) 0 ∷ []) (2 ∷ 4 ∷ []) (1 ∷ 1 ∷ []) ∷
+    -- outcome (open, and what was given): nothing was given; it runs
+    row (became (st.Open (ga.Command 5 9))) (2 ∷ 0 ∷ 0 ∷ 0 ∷ 0 ∷ []) (1 ∷ 0 ∷ 0 ∷ 0 ∷ 0 ∷ []) ∷
     -- put_setup, what QUERY_FUNC replaces (words 3 to 7 of the capabilities): EQs as QUERY_DEV_CAP gave them; reserved UARs as it gave them
     row (take 5 (drop 3 (capWords (merged (info .cap) (info .func))))) (40 ∷ 5 ∷ 6 ∷ 7 ∷ 42 ∷ []) (40 ∷ 41 ∷ 6 ∷ 7 ∷ 8 ∷ []) ∷
     -- put_setup, where the capabilities begin (words 7 to 9): one word early; one word late
@@ -453,7 +590,17 @@ results =
     row (portsOf info ∷ []) (0 ∷ []) (2 ∷ []) ∷
     -- put_setup into too few bytes: what fits; zeros
     row (setupIn (9 ∷ zeros 7) info) (zeros 7 ++ (2 ∷ [])) (zeros 8) ∷
+    -- put_books, a buffer that is held and not mapped (held, handle, device address, pages): its last address; not held
+    row (areaWords (bare 0 7 2)) (1 ∷ 7 ∷ 0 ∷ 2 ∷ []) (0 ∷ 0 ∷ 0 ∷ 0 ∷ []) ∷
+    -- put_books, an empty slot that was mapped once: its handle; held
+    row (areaWords (record { runs = 0; virt = 0; handle = 7; dev = 5; pages = 2; mapped = true })) (0 ∷ 7 ∷ 5 ∷ 2 ∷ []) (1 ∷ 7 ∷ 5 ∷ 2 ∷ []) ∷
+    -- put_books, the four areas (which are held): the areas in the order of their slots; the inbox and the outbox change places
+    row (at (areasWords boxed) 0 ∷ at (areasWords boxed) 4 ∷ at (areasWords boxed) 8 ∷ at (areasWords boxed) 12 ∷ []) (0 ∷ 0 ∷ 1 ∷ 0 ∷ []) (0 ∷ 1 ∷ 0 ∷ 0 ∷ []) ∷
+    -- put_books, how many ranges and lent buffers are held: by the counts of the head; they change places
+    row (length (rangesOf threeHeld) ∷ length (lentOf threeHeld) ∷ []) (0 ∷ 0 ∷ []) (2 ∷ 1 ∷ []) ∷
+    -- put_books into too few bytes: what fits; zeros
+    row (booksIn (9 ∷ zeros 7) fresh) (0 ∷ zeros 7) (1 ∷ zeros 7) ∷
     []
 
 abbrev pub wrong : List Row
-wrong = words ++ tasks ++ besides ++ infos ++ stages ++ books ++ calls ++ goingOn ++ sessions ++ results
+wrong = words ++ tasks ++ besides ++ infos ++ stages ++ books ++ calls ++ goingOn ++ results

@@ -3,17 +3,10 @@ use Rattle.calls.proofs.is_idle.Statement.{statement}
 use Rattle.calls.proofs.is_idle.Tie as tie
 
 returns : tie.Need-returns
-returns c = simp (
-  ← (c .before .before .is-session .ensures),
-  c .before .if1 .taken,
-  c .is-open .ensures,
-)
+returns c = λ b. simp (← (c .before .before .is-session .ensures b), c .before .if1 .taken, c .is-open .ensures)
 
 returns-2 : tie.Need-returns-2
-returns-2 c = simp (
-  ← (c .before .is-session .ensures),
-  c .if1 .left,
-)
+returns-2 c = λ b. simp (← (c .before .is-session .ensures b), c .if1 .left)
 
 pub is-idle-spec : {M : Type 1} → statement M
 is-idle-spec =

@@ -1,14 +1,16 @@
+use mathlib.Core.Path.{ap, _∙_}
 use borrow.Author.Needs.{needs}
+use Rattle.session.specs.declared.Session.{Session}
+use Rattle.client_plan.specs.Plan.{restPlan}
 use Rattle.client.proofs.commanded.Statement.{statement}
 use Rattle.client.proofs.commanded.Tie as tie
 
 returns : tie.Need-returns
-returns c = simp (
-  c .before .before .before .took .ensures,
-  c .before .before .broken-by .ensures,
-  c .before .gave-by .ensures,
-  c .rest .ensures,
-)
+returns c = λ b.
+    let p = c .before .before .before .before .args in
+    c .rest .ensures b
+    ∙ ap (λ (y : Session). restPlan y (c .before .gave-by .result) (p .undo)) (c .before .before .broken-by .ensures b)
+    ∙ simp (c .before .before .before .took .ensures, c .before .gave-by .ensures)
 
 pub commanded-spec : {M : Type 1} → statement M
 commanded-spec =

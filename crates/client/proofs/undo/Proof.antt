@@ -1,31 +1,19 @@
+use mathlib.Core.Path.{_∙_}
 use borrow.Author.Needs.{needs}
 use borrow.Author.Tests.{le-leb, lt-leb}
-use Rattle.client_plan.specs.Plan.{undoPlan}
+use Rattle.session.specs.Core.{full}
+use Rattle.client.proofs.Steps.{undo-over, undo-broken, undo-left}
 use Rattle.client.proofs.undo.Statement.{statement}
 use Rattle.client.proofs.undo.Tie as tie
 
 returns : tie.Need-returns
-unfolding undoPlan
-returns c = simp (
-  le-leb _ _ (c .before .if1 .taken),
-  c .rest .ensures,
-)
+returns c = λ b. let p = c .before .before .before .before .args in c .rest .ensures b ∙ undo-over (full (p .s) b) (p .mark) (p .more) (p .top) (le-leb _ _ (c .before .if1 .taken))
 
 returns-2 : tie.Need-returns-2
-unfolding undoPlan
-returns-2 c = simp (
-  lt-leb _ _ (c .before .before .if1 .left),
-  c .before .if2 .taken,
-  c .rest2 .ensures,
-)
+returns-2 c = λ b. let p = c .before .before .before .before .before .args in c .rest2 .ensures b ∙ undo-broken (full (p .s) b) (p .mark) (p .more) (p .top) (lt-leb _ _ (c .before .before .if1 .left)) (c .before .if2 .taken)
 
 returns-3 : tie.Need-returns-3
-unfolding undoPlan
-returns-3 c = simp (
-  lt-leb _ _ (c .before .before .if1 .left),
-  c .before .if2 .left,
-  c .undo-one .ensures,
-)
+returns-3 c = λ b. let p = c .before .before .before .before .before .args in c .undo-one .ensures b ∙ undo-left (full (p .s) b) (p .mark) (p .more) (p .top) (lt-leb _ _ (c .before .before .if1 .left)) (c .before .if2 .left)
 
 pub undo-spec : {M : Type 1} → statement M
 undo-spec =

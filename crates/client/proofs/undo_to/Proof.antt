@@ -3,7 +3,7 @@ use Rattle.client.proofs.undo_to.Statement.{statement}
 use Rattle.client.proofs.undo_to.Tie as tie
 
 returns : tie.Need-returns
-returns c = simp (c .undo .ensures)
+returns c = λ b. c .undo .ensures b
 
 pub undo-to-spec : {M : Type 1} → statement M
 undo-to-spec =

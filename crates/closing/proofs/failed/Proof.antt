@@ -1,21 +1,15 @@
+use mathlib.Core.Path.{_∙_}
 use borrow.Author.Needs.{needs}
-use Rattle.closing_plan.specs.Plan.{failedPlan}
+use Rattle.session.specs.Core.{full}
+use Rattle.closing.proofs.Steps.{failed-quiet, failed-reset}
 use Rattle.closing.proofs.failed.Statement.{statement}
 use Rattle.closing.proofs.failed.Tie as tie
 
 returns : tie.Need-returns
-unfolding failedPlan
-returns c = simp (
-  c .before .if1 .taken,
-  c .quiet .ensures,
-)
+returns c = λ b. let p = c .before .before .before .args in c .quiet .ensures b ∙ failed-quiet (full (p .s) b) (p .undo) (c .before .if1 .taken)
 
 returns-2 : tie.Need-returns-2
-unfolding failedPlan
-returns-2 c = simp (
-  c .before .if1 .left,
-  c .reset .ensures,
-)
+returns-2 c = λ b. let p = c .before .before .before .args in c .reset .ensures b ∙ failed-reset (full (p .s) b) (p .undo) (c .before .if1 .left)
 
 pub failed-spec : {M : Type 1} → statement M
 failed-spec =

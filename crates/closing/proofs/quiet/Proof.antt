@@ -3,12 +3,7 @@ use Rattle.closing.proofs.quiet.Statement.{statement}
 use Rattle.closing.proofs.quiet.Tie as tie
 
 returns : tie.Need-returns
-returns c = simp (
-  c .before .before .before .before .breaks .ensures,
-  c .before .before .closes .ensures,
-  c .before .start .ensures,
-  c .plan .ensures,
-)
+returns c = λ b. simp (c .before .before .before .breaks .ensures, c .before .before .closes .ensures, c .before .start .ensures, c .new .ensures)
 
 pub quiet-spec : {M : Type 1} → statement M
 quiet-spec =

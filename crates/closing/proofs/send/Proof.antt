@@ -3,11 +3,7 @@ use Rattle.closing.proofs.send.Statement.{statement}
 use Rattle.closing.proofs.send.Tie as tie
 
 returns : tie.Need-returns
-returns c = simp (
-  c .before .before .imm .ensures,
-  c .before .send .ensures,
-  c .plan .ensures,
-)
+returns c = λ b. simp (c .before .before .imm .ensures, c .before .send .ensures, c .new .ensures)
 
 pub send-spec : {M : Type 1} → statement M
 send-spec =

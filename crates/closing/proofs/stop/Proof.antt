@@ -1,21 +1,23 @@
+use mathlib.Core.Path.{_∙_}
 use borrow.Author.Needs.{needs}
-use Rattle.closing_plan.specs.Plan.{stopPlan}
+use Rattle.session.specs.Core.{full}
+use Rattle.behind.specs.Behind.{behindIn}
+use Rattle.closing.proofs.Steps.{stop-reset, stop-undo}
 use Rattle.closing.proofs.stop.Statement.{statement}
 use Rattle.closing.proofs.stop.Tie as tie
 
 returns : tie.Need-returns
-unfolding stopPlan
-returns c = simp (
-  c .before .if1 .taken,
-  c .reset .ensures,
-)
+returns c =
+    let p = c .before .before .before .before .args in
+    let b = behindIn (p .m .now) in
+    let s = full (p .s) b in
+    c .reset .ensures b ∙ stop-reset s (p .top) (c .before .if1 .taken)
 
 returns-2 : tie.Need-returns-2
-unfolding stopPlan
-returns-2 c = simp (
-  c .before .if1 .left,
-  c .undo .ensures,
-)
+returns-2 c =
+    let p = c .before .before .before .before .args in
+    let s = full (p .s) (behindIn (p .m .now)) in
+    c .undo .ensures ∙ stop-undo s (p .top) (c .before .if1 .left)
 
 pub stop-spec : {M : Type 1} → statement M
 stop-spec =

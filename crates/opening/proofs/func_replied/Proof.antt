@@ -1,30 +1,26 @@
+use mathlib.Core.Path.{_∙_}
 use borrow.Author.Needs.{needs}
-use Rattle.opening_plan.specs.Plan.{funcReplied}
-use Rattle.opening_plan.specs.Opening.{queryFunc}
+use Rattle.session.specs.Core.{full}
+use Rattle.behind.specs.Behind.{behindIn}
+use Rattle.opening.proofs.Steps.{func-good, func-short}
 use Rattle.opening.proofs.func_replied.Statement.{statement}
 use Rattle.opening.proofs.func_replied.Tie as tie
 
 returns : tie.Need-returns
-unfolding funcReplied queryFunc
-returns c = simp (
-  c .before .before .before .before .before .before .before .y .given .1,
-  c .before .with-info .ensures,
-  c .ask .ensures,
-)
+returns c =
+    let p = c .before .before .before .before .before .before .before .args in
+    c .ask .ensures ∙ func-good (full (p .s) (behindIn (p .m .now))) (p .top) (p .y) _ (c .before .before .before .before .y .given .1)
 
 returns-2 : tie.Need-returns-2
-unfolding funcReplied queryFunc
-returns-2 c = simp (
-  c .before .enum-told .given .1,
-  c .fail .ensures,
-)
+returns-2 c =
+    let p = c .before .before .before .before .args in
+    c .fail .ensures ∙ func-short (full (p .s) (behindIn (p .m .now))) (p .top) (p .y) (c .before .enum-told .given .1)
 
 pub func-replied-spec : {M : Type 1} → statement M
 func-replied-spec =
     tie.close
     (tie.spec
     (λ c. search needs)
-    (λ c κs. search needs)
     (λ c κs. search needs)
     (λ c. search needs)
     (λ c κs. search needs)

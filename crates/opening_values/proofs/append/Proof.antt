@@ -1,26 +1,15 @@
 use borrow.Author.Needs.{needs}
-use borrow.Author.Tests.{le-leb, le-ltb, lt-leb, lt-ltb}
+use borrow.Author.Tests.{lt-ltb, le-ltb}
 use Rattle.opening_values.proofs.append.Statement.{statement}
 use Rattle.opening_values.proofs.append.Tie as tie
+use Rattle.opening_values.proofs.append.Reads as reads
+use Rattle.opening_values.proofs.append.Lts as lts
 
 returns : tie.Need-returns
-returns c = simp (
-  lt-ltb _ _ (c .before .before .if1 .taken),
-  lt-leb _ _ (c .before .before .if1 .taken),
-)
+returns c = λ b. simp (lt-ltb _ _ (c .before .before .before .if1 .taken))
 
 returns-2 : tie.Need-returns-2
-returns-2 c = simp (
-  le-leb _ _ (c .if1 .left),
-  le-ltb _ _ (c .if1 .left),
-)
+returns-2 c = λ b. simp (le-ltb _ _ (c .if1 .left))
 
 pub append-spec : {M : Type 1} → statement M
-append-spec =
-    tie.close
-    (tie.spec
-    (λ c. search needs)
-    (λ c. search needs)
-    (λ c. search needs)
-    returns
-    returns-2)
+append-spec = tie.close (tie.spec (λ c. search needs) returns returns-2)

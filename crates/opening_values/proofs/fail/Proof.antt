@@ -5,11 +5,7 @@ use Rattle.opening_values.proofs.fail.Tie as tie
 
 returns : tie.Need-returns
 unfolding failPlan
-returns c = simp (c .stop .ensures)
+returns c = c .stop .ensures
 
 pub fail-spec : {M : Type 1} → statement M
-fail-spec =
-    tie.close
-    (tie.spec
-    (λ c κs. search needs)
-    returns)
+fail-spec = tie.close (tie.spec (λ c κs. search needs) returns)

@@ -3,15 +3,7 @@ use Rattle.preparing.proofs.box_plan.Statement.{statement}
 use Rattle.preparing.proofs.box_plan.Tie as tie
 
 returns : tie.Need-returns
-returns c = simp (
-  c .before .start .ensures,
-  c .plan .ensures,
-)
+returns c = λ b. simp (c .new .ensures, c .before .start .ensures)
 
 pub box-plan-spec : {M : Type 1} → statement M
-box-plan-spec =
-    tie.close
-    (tie.spec
-    (λ c κs. search needs)
-    (λ c κs. search needs)
-    returns)
+box-plan-spec = tie.close (tie.spec (λ c κs. search needs) (λ c κs. search needs) returns)

@@ -3,15 +3,7 @@ use Rattle.preparing.proofs.open.Statement.{statement}
 use Rattle.preparing.proofs.open.Tie as tie
 
 returns : tie.Need-returns
-returns c = simp (
-  c .before .start .ensures,
-  c .plan .ensures,
-)
+returns c = λ b. simp (c .new .ensures, c .before .start .ensures)
 
 pub open-spec : {M : Type 1} → statement M
-open-spec =
-    tie.close
-    (tie.spec
-    (λ c κs. search needs)
-    (λ c κs. search needs)
-    returns)
+open-spec = tie.close (tie.spec (λ c κs. search needs) (λ c κs. search needs) returns)

@@ -3,27 +3,10 @@ use Rattle.preparing.proofs.was_reset.Statement.{statement}
 use Rattle.preparing.proofs.was_reset.Tie as tie
 
 returns : tie.Need-returns
-returns c = simp (
-  ← (c .before .before .before .is-good .ensures),
-  c .before .before .if1 .taken,
-  c .before .finds .ensures,
-  c .plan .ensures,
-)
+returns c = λ b. simp (c .find .ensures b, c .before .if1 .taken, ← (c .before .before .is-good .ensures))
 
 returns-2 : tie.Need-returns-2
-returns-2 c = simp (
-  ← (c .before .before .before .is-good .ensures),
-  c .before .before .if1 .left,
-  c .part .ensures,
-)
+returns-2 c = λ b. simp (c .part .ensures b, c .before .if1 .left, ← (c .before .before .is-good .ensures))
 
 pub was-reset-spec : {M : Type 1} → statement M
-was-reset-spec =
-    tie.close
-    (tie.spec
-    (λ c κs. search needs)
-    (λ c κs. search needs)
-    (λ c κs. search needs)
-    returns
-    (λ c κs. search needs)
-    returns-2)
+was-reset-spec = tie.close (tie.spec (λ c κs. search needs) (λ c κs. search needs) returns (λ c κs. search needs) returns-2)

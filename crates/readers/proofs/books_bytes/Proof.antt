@@ -1,63 +1,26 @@
 use borrow.Author.Needs.{needs}
-use Rattle.abi.specs.Readers.{books}
-use Rattle.abi.proofs.Turns.{good, enough}
+use mathlib.Core.Path.{ap, _∙_}
+use Rattle.session.specs.declared.Session.{Session}
+use Rattle.abi.specs.Readers.{Read, booksKnown, books}
+use Rattle.readers.proofs.Laws.{good, short, none, both}
 use Rattle.readers.proofs.books_bytes.Statement.{statement}
 use Rattle.readers.proofs.books_bytes.Tie as tie
 
-give-books-requires : tie.Need-give-books-requires
-give-books-requires c κs =
-    let p = c .before .before .before .before .before .before .args in
-    let d = c .before .before .before .decode in
-    enough (p .state .now) (d .result .session) (good (d .result) (p .state .now) (d .ensures .0) (c .before .enum-told .given .1))
-
 returns : tie.Need-returns
 unfolding books
-returns c = (
-  simp (
-    ← (c .before .before .before .before .before .before .decode .ensures .0),
-    c .before .before .before .before .before .match .keys1,
-    c .before .before .before .before .enum-told .given .1,
-    c .before .before .give-books .ensures .0,
-    c .before .before .give-books .ensures .1,
-  ),
-  simp (
-    ← (c .before .before .before .before .before .before .decode .ensures .0),
-    c .before .before .before .before .before .match .keys1,
-    c .before .before .before .before .enum-told .given .1,
-    c .before .before .give-books .ensures .0,
-    c .before .before .give-books .ensures .1,
-  ),
-)
+returns c =
+    let p = c .before .before .before .before .before .before .before .before .before .before .args in
+    let g = good (λ (x : Session). booksKnown x (p .out .now)) (p .state .now) (p .out .now) (c .before .before .before .before .head-at .ensures) (c .before .before .before .before .before .before .before .keeps .ensures) (c .before .before .before .before .before .enum-told .given .1) in
+    let e = c .before .before .give-books .ensures in
+    (e .0 ∙ ap (λ (r : Read). r .code) g, e .1 ∙ ap (λ (r : Read). r .out) g)
 
 returns-2 : tie.Need-returns-2
 unfolding books
-returns-2 c = (
-  simp (
-    ← (c .before .before .decode .ensures .0),
-    c .before .match .keys2,
-    c .enum-told2 .given .1,
-  ),
-  simp (
-    ← (c .before .before .decode .ensures .0),
-    c .before .match .keys2,
-    c .enum-told2 .given .1,
-  ),
-)
+returns-2 c = let p = c .before .before .before .before .before .args in both (short (λ (x : Session). booksKnown x (p .out .now)) (p .state .now) (p .out .now) (c .before .before .keeps .ensures) (c .enum-told2 .given .1))
 
 returns-3 : tie.Need-returns-3
 unfolding books
-returns-3 c = (
-  simp (
-    ← (c .before .before .decode .ensures .0),
-    c .before .match .keys3,
-    c .enum-told3 .given .1,
-  ),
-  simp (
-    ← (c .before .before .decode .ensures .0),
-    c .before .match .keys3,
-    c .enum-told3 .given .1,
-  ),
-)
+returns-3 c = let p = c .before .before .before .before .before .args in both (none (λ (x : Session). booksKnown x (p .out .now)) (p .state .now) (p .out .now) (c .before .before .keeps .ensures) (c .enum-told3 .given .1))
 
 pub books-bytes-spec : {M : Type 1} → statement M
 books-bytes-spec =
@@ -65,7 +28,8 @@ books-bytes-spec =
     (tie.spec
     (λ c κs. search needs)
     (λ c. search needs)
-    give-books-requires
+    (λ c κs. search needs)
+    (λ c κs. search needs)
     (λ c. search needs)
     (λ c. search needs)
     (λ c. search needs)

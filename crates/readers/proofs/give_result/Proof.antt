@@ -1,38 +1,34 @@
 use borrow.Author.Needs.{needs}
-use Rattle.abi.proofs.Readers.{gives, outcome-length}
-use Rattle.abi.specs.Readers.{Read}
+use mathlib.Core.Path.{ap, _∙_}
+use Rattle.words.specs.Words.{putWords}
+use Rattle.words_session.proofs.Laws.{stored}
 use Rattle.results.specs.Results.{outcomeWords}
 use Rattle.fw_plan.specs.Calls.{outcomeOf}
-use Rattle.words_session.proofs.Laws.{stored}
-use mathlib.Core.Path.{ap, _∙_}
-use borrow.Author.Tests.{lt-leb, lt-ltb}
-use Rattle.abi.specs.Readers.{resultKnown}
+use Rattle.session.specs.Core.{full}
+use Rattle.behind.specs.Behind.{behindIn}
+use Rattle.abi.specs.Readers.{reads, resultKnown}
+use Rattle.abi.proofs.Readers.{gives, outcome-length}
+use Rattle.readers.proofs.Laws.{no-room, both}
 use Rattle.readers.proofs.give_result.Statement.{statement}
 use Rattle.readers.proofs.give_result.Tie as tie
 
 returns : tie.Need-returns
 unfolding resultKnown
-returns c = (
-  simp (
-    lt-ltb _ _ (c .if1 .taken),
-    lt-leb _ _ (c .if1 .taken),
-  ),
-  simp (
-    lt-ltb _ _ (c .if1 .taken),
-    lt-leb _ _ (c .if1 .taken),
-  ),
-)
+returns c =
+    let p = c .before .before .before .args in
+    let x = full (p .s) (behindIn (p .state .now)) in
+    let w = p .out .now in
+    both (no-room 40 w (reads 0 (putWords w 0 (outcomeWords (x .books .lists .slots) (outcomeOf x)))) (c .if1 .taken))
 
 returns-2 : tie.Need-returns-2
 unfolding resultKnown
 returns-2 c =
-    let p = c .before .before .before .before .before .before .before .before .before .args in
+    let p = c .before .before .before .before .before .before .before .before .before .before .args in
+    let x = full (p .s) (behindIn (p .state .now)) in
+    let w = p .out .now in
     let h = c .before .before .before .before .before .before .before .if1 .left in
-    let ws = outcomeWords (outcomeOf (p .s)) in
-    let g = gives 5 (p .out .now) ws h in (
-      ap (λ (r : Read). r .code) g,
-      stored (p .out .now) 0 5 (c .before .before .store .ensures) (c .before .before .before .before .before .outcome-words .ensures ∙ ap outcomeWords (c .before .before .before .before .before .before .result .ensures)) (outcome-length (outcomeOf (p .s))) h ∙ ap (λ (r : Read). r .out) g,
-    )
+    let g = both (gives 5 w (outcomeWords (x .books .lists .slots) (outcomeOf x)) h) in
+    (g .0, stored w 0 5 (c .before .before .store .ensures) (c .before .before .before .before .before .outcome-words .ensures ∙ ap (outcomeWords (x .books .lists .slots)) (c .before .before .before .before .before .before .outcome .ensures (behindIn (p .state .now)))) (outcome-length (x .books .lists .slots) (outcomeOf x)) h ∙ g .1)
 
 pub give-result-spec : {M : Type 1} → statement M
 give-result-spec =

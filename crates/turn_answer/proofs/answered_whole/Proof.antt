@@ -15,8 +15,8 @@ returns c =
     let u = p .top in
     let known = sym (ap heardAs (c .before .before .before .before .before .before .before .before .before .before .before .before .before .before .x .given .1)) ∙ c .before .before .before .before .before .before .before .before .before .before .before .before .before .before .before .before .answer-from .ensures in
     let g = by-whole (value _) (p .resource .now) u (p .state .now) (p .inbox .now) (p .outbox .now) (p .out .now) known in (
-      c .before .before .before .before .before .before .before .before .answer-bytes .ensures .0 ∙ g,
-      known-holds _ _ (λ x. answerNext x (p .resource .now) u (p .inbox .now) (p .outbox .now) (p .out .now)) (p .state .now) _ known (c .before .before .before .before .before .before .before .before .answer-bytes .ensures .1),
+      c .before .before .before .before .before .before .before .before .answer .ensures .0 ∙ g,
+      known-holds _ _ (λ x. answerNext x (p .resource .now) u (p .inbox .now) (p .outbox .now) (p .out .now)) (p .state .now) _ known (c .before .before .before .before .before .before .before .before .answer .ensures .1),
     )
 
 returns-2 : tie.Need-returns-2

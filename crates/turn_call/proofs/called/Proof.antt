@@ -16,8 +16,8 @@ returns c =
     let u = p .top in
     let known = sym (ap callAs (c .before .before .before .before .before .before .before .before .before .before .before .before .before .before .x .given .1)) ∙ c .before .before .before .before .before .before .before .before .before .before .before .before .before .before .before .before .call-from .ensures in
     let g = by-wanted (value _) (p .input .now) u (p .state .now) (p .inbox .now) (p .outbox .now) (p .out .now) known in (
-      c .before .before .before .before .before .before .before .before .call-bytes .ensures .0 ∙ g,
-      known-holds _ _ (λ x. callNext x (p .input .now) u (p .inbox .now) (p .outbox .now) (p .out .now)) (p .state .now) _ known (c .before .before .before .before .before .before .before .before .call-bytes .ensures .1),
+      c .before .before .before .before .before .before .before .before .make .ensures .0 ∙ g,
+      known-holds _ _ (λ x. callNext x (p .input .now) u (p .inbox .now) (p .outbox .now) (p .out .now)) (p .state .now) _ known (c .before .before .before .before .before .before .before .before .make .ensures .1),
     )
 
 returns-2 : tie.Need-returns-2

@@ -4,11 +4,10 @@ use Rattle.words_books.proofs.ledger_from.Tie as tie
 
 returns : tie.Need-returns
 returns c = simp (
-  c .before .before .before .before .before .before .size .ensures,
-  c .before .before .before .before .before .size2 .ensures,
-  c .before .before .before .before .flag .ensures,
-  c .before .before .before .wire-from .ensures,
-  c .before .before .held-from .ensures,
+  c .before .before .before .before .before .size .ensures,
+  c .before .before .before .before .size2 .ensures,
+  c .before .before .before .flag .ensures,
+  c .before .before .wire-from .ensures,
   c .before .failure-from .ensures,
   c .closing-from .ensures,
 )
@@ -23,23 +22,6 @@ ledger-from-spec =
     (λ c κs. search needs)
     (λ c. search needs)
     (λ c κs. search needs)
-    (λ c. search needs)
-    (λ c. search needs)
-    (λ c. search needs)
-    (λ c. search needs)
-    (λ c. search needs)
-    (λ c. search needs)
-    (λ c. search needs)
-    (λ c. search needs)
-    (λ c κs. search needs)
-    (λ c. search needs)
-    (λ c. search needs)
-    (λ c. search needs)
-    (λ c. search needs)
-    (λ c. search needs)
-    (λ c. search needs)
-    (λ c. search needs)
-    (λ c. search needs)
     (λ c. search needs)
     (λ c. search needs)
     (λ c. search needs)

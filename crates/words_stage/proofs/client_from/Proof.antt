@@ -4,12 +4,15 @@ use Rattle.words_stage.proofs.client_from.Statement.{statement}
 use Rattle.words_stage.proofs.client_from.Tie as tie
 
 returns : tie.Need-returns
-returns c = simp (c .match .keys1)
+returns c = simp (
+  c .before .match .keys1,
+  c .size .ensures,
+)
 
 returns-2 : tie.Need-returns-2
 returns-2 c = simp (
   c .before .before .match .keys2,
-  c .before .size .ensures,
+  c .before .size2 .ensures,
   c .narrow32 .ensures,
 )
 
@@ -24,6 +27,7 @@ pub client-from-spec : {M : Type 1} → statement M
 client-from-spec =
     tie.close
     (tie.spec
+    (λ c κs. search needs)
     (λ c κs. search needs)
     (λ c κs. search needs)
     (λ c κs. search needs)

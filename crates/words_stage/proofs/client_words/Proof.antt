@@ -9,12 +9,15 @@ returns c = simp (
 )
 
 returns-2 : tie.Need-returns-2
-returns-2 c = simp (c .enum-told .given .1)
+returns-2 c = simp (
+  c .before .before .v2 .given .1,
+  c .long .ensures,
+)
 
 returns-3 : tie.Need-returns-3
 returns-3 c = simp (
-  c .before .before .before .v2 .given .1,
-  c .before .long .ensures,
+  c .before .before .before .v3 .given .1,
+  c .before .long2 .ensures,
   c .wide32 .ensures,
 )
 
@@ -26,6 +29,7 @@ client-words-spec =
     (λ c κs. search needs)
     (λ c. search needs)
     (λ c. search needs)
+    (λ c κs. search needs)
     (λ c. search needs)
     (λ c κs. search needs)
     (λ c κs. search needs)

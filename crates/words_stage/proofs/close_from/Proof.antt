@@ -22,15 +22,12 @@ returns-5 : tie.Need-returns-5
 returns-5 c = simp (c .match .keys5)
 
 returns-6 : tie.Need-returns-6
-returns-6 c = simp (
-  c .before .match .keys6,
-  c .size2 .ensures,
-)
+returns-6 c = simp (c .match .keys6)
 
 returns-7 : tie.Need-returns-7
 returns-7 c = simp (
   c .before .match .keys7,
-  c .size3 .ensures,
+  c .size2 .ensures,
 )
 
 returns-8 : tie.Need-returns-8
@@ -40,27 +37,7 @@ returns-9 : tie.Need-returns-9
 returns-9 c = simp (c .match .keys9)
 
 returns-10 : tie.Need-returns-10
-returns-10 c = simp (c .match .keys10)
-
-returns-11 : tie.Need-returns-11
-returns-11 c = simp (c .match .keys11)
-
-returns-12 : tie.Need-returns-12
-returns-12 c = simp (c .match .keys12)
-
-returns-13 : tie.Need-returns-13
-returns-13 c = simp (c .match .keys13)
-
-returns-14 : tie.Need-returns-14
-returns-14 c = simp (c .match .keys14)
-
-returns-15 : tie.Need-returns-15
-returns-15 c = simp (
-  ne-eqb _ _ (c .before .match .rest .0 .0 .0 .0 .0 .0 .0 .0 .0 .0 .0 .0 .0 .1),
-  ne-eqb _ _ (c .before .match .rest .0 .0 .0 .0 .0 .0 .0 .0 .0 .0 .0 .0 .1),
-  ne-eqb _ _ (c .before .match .rest .0 .0 .0 .0 .0 .0 .0 .0 .0 .0 .0 .1),
-  ne-eqb _ _ (c .before .match .rest .0 .0 .0 .0 .0 .0 .0 .0 .0 .0 .1),
-  ne-eqb _ _ (c .before .match .rest .0 .0 .0 .0 .0 .0 .0 .0 .0 .1),
+returns-10 c = simp (
   ne-eqb _ _ (c .before .match .rest .0 .0 .0 .0 .0 .0 .0 .0 .1),
   ne-eqb _ _ (c .before .match .rest .0 .0 .0 .0 .0 .0 .0 .1),
   ne-eqb _ _ (c .before .match .rest .0 .0 .0 .0 .0 .0 .1),
@@ -80,7 +57,6 @@ close-from-spec =
     (λ c κs. search needs)
     (λ c κs. search needs)
     (λ c κs. search needs)
-    (λ c κs. search needs)
     returns
     returns-2
     returns-3
@@ -90,9 +66,4 @@ close-from-spec =
     returns-7
     returns-8
     returns-9
-    returns-10
-    returns-11
-    returns-12
-    returns-13
-    returns-14
-    returns-15)
+    returns-10)

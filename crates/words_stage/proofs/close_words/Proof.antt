@@ -8,56 +8,17 @@ returns c = simp (
   c .wide32 .ensures,
 )
 
-returns-2 : tie.Need-returns-2
-returns-2 c = simp (c .enum-told .given .1)
-
 returns-3 : tie.Need-returns-3
 returns-3 c = simp (
   c .before .before .v2 .given .1,
   c .long .ensures,
 )
 
-returns-4 : tie.Need-returns-4
-returns-4 c = simp (c .enum-told2 .given .1)
-
-returns-5 : tie.Need-returns-5
-returns-5 c = simp (c .enum-told3 .given .1)
-
-returns-6 : tie.Need-returns-6
-returns-6 c = simp (c .enum-told4 .given .1)
-
-returns-7 : tie.Need-returns-7
-returns-7 c = simp (
+returns-8 : tie.Need-returns-8
+returns-8 c = simp (
   c .before .before .v3 .given .1,
   c .long2 .ensures,
 )
-
-returns-8 : tie.Need-returns-8
-returns-8 c = simp (
-  c .before .before .v4 .given .1,
-  c .long3 .ensures,
-)
-
-returns-9 : tie.Need-returns-9
-returns-9 c = simp (c .enum-told5 .given .1)
-
-returns-10 : tie.Need-returns-10
-returns-10 c = simp (c .enum-told6 .given .1)
-
-returns-11 : tie.Need-returns-11
-returns-11 c = simp (c .enum-told7 .given .1)
-
-returns-12 : tie.Need-returns-12
-returns-12 c = simp (c .enum-told8 .given .1)
-
-returns-13 : tie.Need-returns-13
-returns-13 c = simp (c .enum-told9 .given .1)
-
-returns-14 : tie.Need-returns-14
-returns-14 c = simp (c .enum-told10 .given .1)
-
-returns-15 : tie.Need-returns-15
-returns-15 c = simp (c .enum-told11 .given .1)
 
 pub close-words-spec : {M : Type 1} → statement M
 close-words-spec =
@@ -72,28 +33,17 @@ close-words-spec =
     (λ c. search needs)
     (λ c. search needs)
     (λ c. search needs)
-    (λ c κs. search needs)
     (λ c. search needs)
     (λ c κs. search needs)
-    (λ c. search needs)
-    (λ c. search needs)
-    (λ c. search needs)
-    (λ c. search needs)
-    (λ c. search needs)
     (λ c. search needs)
     (λ c. search needs)
     returns
-    returns-2
+    (λ c. search needs)
     returns-3
-    returns-4
-    returns-5
-    returns-6
-    returns-7
+    (λ c. search needs)
+    (λ c. search needs)
+    (λ c. search needs)
+    (λ c. search needs)
     returns-8
-    returns-9
-    returns-10
-    returns-11
-    returns-12
-    returns-13
-    returns-14
-    returns-15)
+    (λ c. search needs)
+    (λ c. search needs))

@@ -9,7 +9,7 @@ returns c = simp (c .match .keys1)
 returns-2 : tie.Need-returns-2
 returns-2 c = simp (
   c .before .match .keys2,
-  c .buffer-from .ensures,
+  c .size .ensures,
 )
 
 returns-3 : tie.Need-returns-3

@@ -2,16 +2,13 @@ use borrow.Author.Needs.{needs}
 use Rattle.words_stage.proofs.gave_words.Statement.{statement}
 use Rattle.words_stage.proofs.gave_words.Tie as tie
 
-returns : tie.Need-returns
-returns c = simp (c .enum-told .given .1)
-
 returns-2 : tie.Need-returns-2
 returns-2 c = simp (c .before .v .given .1)
 
 returns-3 : tie.Need-returns-3
 returns-3 c = simp (
   c .before .before .v2 .given .1,
-  c .buffer-words .ensures,
+  c .long .ensures,
 )
 
 returns-4 : tie.Need-returns-4
@@ -29,14 +26,11 @@ gave-words-spec =
     (λ c. search needs)
     (λ c κs. search needs)
     (λ c. search needs)
-    (λ c. search needs)
-    (λ c. search needs)
-    (λ c. search needs)
     (λ c κs. search needs)
     (λ c. search needs)
     (λ c. search needs)
     (λ c. search needs)
-    returns
+    (λ c. search needs)
     returns-2
     returns-3
     returns-4)

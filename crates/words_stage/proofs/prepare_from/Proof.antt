@@ -1,4 +1,3 @@
-use borrow.Author.Needs.{needs}
 use borrow.Author.Tests.{ne-eqb}
 use Rattle.words_stage.proofs.prepare_from.Statement.{statement}
 use Rattle.words_stage.proofs.prepare_from.Tie as tie
@@ -19,17 +18,10 @@ returns-5 : tie.Need-returns-5
 returns-5 c = simp (c .match .keys5)
 
 returns-6 : tie.Need-returns-6
-returns-6 c = simp (
-  c .before .match .keys6,
-  c .fault-from .ensures,
-)
+returns-6 c = simp (c .match .keys6)
 
 returns-7 : tie.Need-returns-7
-returns-7 c = simp (c .match .keys7)
-
-returns-8 : tie.Need-returns-8
-returns-8 c = simp (
-  ne-eqb _ _ (c .match .rest .0 .0 .0 .0 .0 .0 .1),
+returns-7 c = simp (
   ne-eqb _ _ (c .match .rest .0 .0 .0 .0 .0 .1),
   ne-eqb _ _ (c .match .rest .0 .0 .0 .0 .1),
   ne-eqb _ _ (c .match .rest .0 .0 .0 .1),
@@ -42,12 +34,10 @@ pub prepare-from-spec : {M : Type 1} → statement M
 prepare-from-spec =
     tie.close
     (tie.spec
-    (λ c κs. search needs)
     returns
     returns-2
     returns-3
     returns-4
     returns-5
     returns-6
-    returns-7
-    returns-8)
+    returns-7)

@@ -27,13 +27,13 @@ returns-4 c = simp (
 returns-5 : tie.Need-returns-5
 returns-5 c = simp (
   c .before .match .keys5,
-  c .close-from .ensures,
+  c .client-from .ensures,
 )
 
 returns-6 : tie.Need-returns-6
 returns-6 c = simp (
   c .before .match .keys6,
-  c .client-from .ensures,
+  c .close-from .ensures,
 )
 
 returns-7 : tie.Need-returns-7
@@ -57,7 +57,6 @@ stage-from-spec =
     (λ c. search needs)
     (λ c κs. search needs)
     (λ c. search needs)
-    (λ c. search needs)
     (λ c κs. search needs)
     (λ c. search needs)
     (λ c. search needs)
@@ -69,8 +68,8 @@ stage-from-spec =
     (λ c κs. search needs)
     (λ c. search needs)
     (λ c. search needs)
-    (λ c κs. search needs)
     (λ c. search needs)
+    (λ c κs. search needs)
     (λ c. search needs)
     (λ c. search needs)
     (λ c κs. search needs)

@@ -2,17 +2,11 @@ use borrow.Author.Needs.{needs}
 use Rattle.words_stage.proofs.stage_words.Statement.{statement}
 use Rattle.words_stage.proofs.stage_words.Tie as tie
 
-returns : tie.Need-returns
-returns c = simp (c .enum-told .given .1)
-
 returns-2 : tie.Need-returns-2
 returns-2 c = simp (
   c .before .before .v .given .1,
   c .gave-words .ensures,
 )
-
-returns-3 : tie.Need-returns-3
-returns-3 c = simp (c .enum-told2 .given .1)
 
 returns-4 : tie.Need-returns-4
 returns-4 c = simp (
@@ -29,13 +23,13 @@ returns-5 c = simp (
 returns-6 : tie.Need-returns-6
 returns-6 c = simp (
   c .before .before .v4 .given .1,
-  c .close-words .ensures,
+  c .client-words .ensures,
 )
 
 returns-7 : tie.Need-returns-7
 returns-7 c = simp (
   c .before .before .v5 .given .1,
-  c .client-words .ensures,
+  c .close-words .ensures,
 )
 
 pub stage-words-spec : {M : Type 1} → statement M
@@ -54,7 +48,6 @@ stage-words-spec =
     (λ c κs. search needs)
     (λ c. search needs)
     (λ c. search needs)
-    (λ c. search needs)
     (λ c κs. search needs)
     (λ c. search needs)
     (λ c. search needs)
@@ -68,13 +61,13 @@ stage-words-spec =
     (λ c. search needs)
     (λ c. search needs)
     (λ c. search needs)
+    (λ c. search needs)
     (λ c κs. search needs)
     (λ c. search needs)
     (λ c. search needs)
     (λ c. search needs)
-    returns
     returns-2
-    returns-3
+    (λ c. search needs)
     returns-4
     returns-5
     returns-6

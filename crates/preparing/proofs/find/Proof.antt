@@ -1,0 +1,9 @@
+use borrow.Author.Needs.{needs}
+use Rattle.preparing.proofs.find.Statement.{statement}
+use Rattle.preparing.proofs.find.Tie as tie
+
+returns : tie.Need-returns
+returns c = λ b. simp (c .new .ensures, c .before .start .ensures)
+
+pub find-spec : {M : Type 1} → statement M
+find-spec = tie.close (tie.spec (λ c κs. search needs) (λ c κs. search needs) returns)

@@ -1,0 +1,22 @@
+use mathlib.Core.Path.{_≡_, refl, ap, sym, _∙_}
+use Rattle.words.specs.Places.{taskAt}
+use Rattle.words_session.specs.Image.{headWords}
+use Rattle.behind.proofs.Laws.{put-short, put-long}
+use borrow.Author.Needs.{needs}
+use Rattle.words_session.proofs.put_head.Statement.{statement}
+use Rattle.words_session.proofs.put_head.Tie as tie
+
+returns : tie.Need-returns
+returns c = put-short taskAt (headWords (c .before .before .args .c)) (c .before .before .args .s .now) (c .if1 .taken)
+
+returns-2 : tie.Need-returns-2
+returns-2 c = c .before .before .put-head-in .ensures ∙ put-long taskAt (headWords (c .before .before .before .before .before .before .args .c)) (c .before .before .before .before .before .before .args .s .now) (c .before .before .before .before .if1 .left)
+
+pub put-head-spec : {M : Type 1} → statement M
+put-head-spec =
+    tie.close
+    (tie.spec
+    returns
+    (λ c κs. search needs)
+    (λ c. search needs)
+    returns-2)
