@@ -20,7 +20,7 @@ typedef struct {
     VOID *token;
 } loader_pages;
 
-/* A session with all that is lent to its calls; 16 KB and more, so not for the stack. */
+/* A session with all that is lent to its calls; 20 KB and more, so not for the stack. */
 typedef struct {
     EFI_PCI_IO_PROTOCOL *pci;
     UINT8 state[HCA_STATE], inbox[HCA_MAILBOX], outbox[HCA_MAILBOX], out[HCA_TURN], list[LOADER_LIST];

@@ -19,12 +19,15 @@
  *   resource  no one: it is read by hca_answer, and not kept
  * A pointer may be null only where its length is 0; `undo` is aligned as its type. No slice that is written may overlap another.
  *
- * All words are little-endian, of eight bytes. The first and the second good HCA_ALLOCATE of an opening are the pages that stand behind `inbox` and `outbox`. An answer that does
- * not end its command looks at the first 80 bytes of the session alone; damage behind them is found by the next answer that does, or is to another task, and by every call.
+ * All words are little-endian, of eight bytes. The first and the second good HCA_ALLOCATE of an opening are the pages that stand behind `inbox` and `outbox`.
+ *
+ * Of damage to the session's bytes, and what finds it: hca_call and the four functions that only read test all of them. hca_answer tests the first 80 where a command goes on, and else
+ * the first 360; what lies behind, as a buffer that is freed, it takes as it stands there. Damage that it does not test is found by the next call (HCA_WRONG), or goes on in what the
+ * damaged part says.
  *
  * The library is for x86-64 with the System V calling convention, and uses the red zone: under UEFI its functions are called at TPL_HIGH_LEVEL. docs/SHELL.md says that, and what
- * a caller does at each question; docs/MAP.md has the states of a session. hca_answer needs up to 86,584 bytes of
- * stack, where an opening fails; docs/BENCHMARK.md has what the others need.
+ * a caller does at each question; docs/MAP.md has the states of a session. hca_answer needs up to 9,608 bytes of
+ * stack; docs/BENCHMARK.md has what the others need.
  */
 #ifndef HCA_H
 #define HCA_H
@@ -36,7 +39,7 @@
 extern "C" {
 #endif
 
-#define HCA_STATE 3336
+#define HCA_STATE 5160
 #define HCA_MAILBOX 4096
 #define HCA_UNDO_RECORDS 256
 #define HCA_LENT_BUFFERS 64
@@ -219,14 +222,16 @@ uint32_t hca_result(const uint8_t *state, size_t state_bytes, uint8_t *out, size
 uint32_t hca_setup(const uint8_t *state, size_t state_bytes, uint8_t *out, size_t out_bytes);
 
 /*
- * The books, 280 words.
- *   0   how many ranges, how many lent buffers, 1 if INIT_HCA was good, the attributes before the opening
+ * The books, 280 words: what the session holds. A buffer stands in them from the good answer to its HCA_ALLOCATE to the answer to its HCA_FREE, so one that is being made, or
+ * that was unmapped and is not yet freed, is shown too. While it is not mapped its device address is 1, which no page has.
+ *   0   how many ranges, how many lent buffers are held, 1 if INIT_HCA was good, the attributes before the opening
  *   4   the toggle, 1 if a command may still run, 1 if broken, 1 if silent (a quiesce has begun)
  *   8   the catastrophic buffer: 1 if unknown, BAR, offset
- *   11  the inbox; 15 the outbox; 19 the firmware area; 23 the auxiliary area: each 1 if held, handle, device address, pages
+ *   11  the inbox; 15 the outbox; 19 the firmware area; 23 the auxiliary area: each 1 if held, handle, device address, pages; 0 everywhere where it is not held
  *   27  1 if the opening failed, then the number of its refusal less 1 and its two values; how the closing went, as hca_result has it
- *   32  fourteen ranges: card address, handle, device address, pages. So many as word 0 says are held, in the order of their mapping
- *   88  HCA_LENT_BUFFERS lent buffers: handle, device address, pages. So many as word 1 says are lent, oldest first
+ *   32  fourteen ranges: card address, handle, device address, pages. The first of them, as many as word 0 says, are those that are held, in the order of their mapping; the others are 0
+ *   88  HCA_LENT_BUFFERS lent buffers: handle, device address, pages. The first of them, as many as word 1 says, are those that are held, oldest first; the others are 0
+ * A closing frees the lent buffers, the ranges and the areas in this order, the oldest first: what it has freed is off the books, and the rows behind move up.
  */
 #define HCA_BOOKS 2240
 uint32_t hca_books(const uint8_t *state, size_t state_bytes, uint8_t *out, size_t out_bytes);

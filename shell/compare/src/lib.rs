@@ -3,8 +3,9 @@
 //! A case is a list of words and some bytes; a leaf says how to make cases, and what the Rust and the proved function
 //! give for one. `run` has the comparison, `stored` the sample that the program `replay` reads. `machines` compares tasks,
 //! `sessions` openings and closes, `calls` lists of all calls; `arbitrary` calls the functions of include/hca.h with anything
-//! at all. `order` counts the comparisons that put tables in order, which the Rust does not tell; `lists` makes resource
-//! lists, on either side of the Rust's domain. `program` has what the programs share.
+//! at all, and `image` says where the parts of a session's bytes are. `order` counts the comparisons that put tables in order,
+//! which the Rust does not tell; `lists` makes resource lists, on either side of the Rust's domain. `program` has what the
+//! programs share.
 
 pub mod arbitrary;
 pub mod bars;
@@ -12,6 +13,7 @@ pub mod calls;
 pub mod command;
 pub mod ffi;
 pub mod fields;
+pub mod image;
 pub mod lists;
 pub mod machines;
 pub mod memory;

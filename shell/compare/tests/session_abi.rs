@@ -1,6 +1,7 @@
 //! What lies outside the Rust's domain: answers of the wrong kind (20), short slices (21), bad device addresses (18), and
 //! bytes that are no session. The definition alone decides there; a call that is refused changes nothing.
 
+use compare::image::{self, HEAD, LENDS, MAPPED, RANGES, SLOT, SLOTS, SLOT_COUNT, WORDS};
 use compare::sessions::answers::{good, suits, told};
 use compare::sessions::beside::{ours, rust, Ran};
 use compare::sessions::cases::{self, Case};
@@ -8,7 +9,7 @@ use compare::sessions::over::Over;
 use session::abi::{self, Words, UNDO_RECORDS};
 use session::ffi::{self, Called, Lent, Reader, Told};
 use session::{Call, Closing, Outcome, Question, Refusal, Refused, Session, Undo, UndoList, LIST_BYTES};
-use world::bus::Resource;
+use world::bus::{Handle, Resource};
 use world::plan::OddMap;
 use world::prng::Prng;
 use world::resources::{Descriptor, END, IO};
@@ -282,9 +283,6 @@ fn a_full_undo_list() {
     assert!(undo.is_empty());
 }
 
-/// A byte behind the first ten words that is 0 in every session: the highest of how many ranges there are.
-const RANGES: usize = 21 * 8 + 7;
-
 /// The task is a command before and after the answer, and the phase of the later one is not its first.
 fn goes_on(before: &[u8], after: &[u8]) -> bool {
     let is_command = |state: &[u8]| Words(state).at(0) == 8;
@@ -292,7 +290,7 @@ fn goes_on(before: &[u8], after: &[u8]) -> bool {
 }
 
 /// An answer that does not end its command changes words 1, 2, 8 and 9 of the session at most, and looks at none behind
-/// word 9: damage there is found by the answer that ends it, and by any to another task.
+/// word 9: damage of the head there is found by the answer that ends it, and by any to another task.
 #[test]
 fn a_command_that_goes_on_touches_its_own_words_alone() {
     let mut case = cases::variants()[0].clone();
@@ -306,14 +304,15 @@ fn a_command_that_goes_on_touches_its_own_words_alone() {
         let before = Copies::of(&session);
         let answer = session.ask(&mut Over::new(&mut bus), &mut list);
         let mut damaged = before.clone();
-        damaged.state[RANGES] = 1;
+        let high = RANGES * 8 + 7;
+        damaged.state[high] = 1;
         let next = session.answer(answer, &mut undo).expect("an answer that suits");
         if goes_on(&before.state, session.state()) {
             went_on += 1;
             let changed = |k: &usize| before.state[*k] != session.state()[*k];
             assert!((0..abi::STATE).filter(changed).all(|k| [1, 2, 8, 9].contains(&(k / 8))), "{q:?}");
             assert_eq!(damaged.call(|l| ffi::answer(l, answer.told())), 0, "{q:?}");
-            damaged.state[RANGES] = 0;
+            damaged.state[high] = 0;
             assert_eq!(damaged.state, session.state());
             assert_eq!(Question::of(&Words(&damaged.out)), Some(next));
         } else {
@@ -323,6 +322,141 @@ fn a_command_that_goes_on_touches_its_own_words_alone() {
     }
     // Of a command 13 answers besides its polls go on, and one ends it.
     assert_eq!(went_on, 24 * 13 + 2 * 1_005);
+}
+
+/// Runs a call; `look` sees the session and the world at each of its questions, before it is answered, and behind the last.
+fn looking(
+    session: &mut Session,
+    call: Call,
+    bus: &mut World,
+    undo: &mut UndoList,
+    look: &mut dyn FnMut(&Session, &World, Question),
+) {
+    let mut list = [0; 64];
+    let mut q = session.begin(call, undo).expect("a call at its time");
+    while q != Question::Finished {
+        look(session, bus, q);
+        let answer = session.ask(&mut Over::new(bus), &mut list);
+        q = session.answer(answer, undo).expect("an answer that suits");
+    }
+    look(session, bus, q);
+}
+
+/// The books name what was handed over and not given back, and mark what is not mapped.
+fn books_are_exact(s: &Session, bus: &World, q: Question) {
+    let books = s.books().expect("a session");
+    let sorted = |fits: &dyn Fn(&session::Buffer) -> bool| {
+        let mut all: Vec<u64> = books.buffers().filter(|b| fits(b)).map(|b| b.handle).collect();
+        all.sort_unstable();
+        all
+    };
+    let holdings = bus.holdings();
+    let handles = |all: &[Handle]| all.iter().map(|h| h.0).collect::<Vec<u64>>();
+    assert_eq!(sorted(&|_| true), handles(&holdings.in_use), "{q:?}");
+    assert_eq!(sorted(&|b| b.mapped()), handles(&holdings.mapped), "{q:?}");
+}
+
+/// At every question of openings, lendings and closings, good ones and such that fail, the books are exact.
+#[test]
+fn books_at_every_question() {
+    let case = &cases::variants()[2];
+    let mut bus = World::new(case.plan.clone());
+    let first = run_exactly(&mut bus);
+    assert_eq!(first, (true, 18 + 3));
+    let calls = bus.calls();
+    for n in (0..calls).step_by(STRIDE) {
+        for taken in [false, true] {
+            run_exactly(&mut World::new(case.with_fault(n, taken).plan));
+        }
+    }
+}
+
+/// An opening, three lendings and a close; whether it was opened, and the most buffers that were held.
+fn run_exactly(bus: &mut World) -> (bool, usize) {
+    let (mut session, mut undo) = (Session::new(), UndoList::new(&mut []));
+    let mut most = 0;
+    let mut look = |s: &Session, bus: &World, q: Question| {
+        books_are_exact(s, bus, q);
+        most = bus.in_use().len().max(most);
+    };
+    looking(&mut session, Call::Open, bus, &mut undo, &mut look);
+    let opened = session.result() == Ok(Outcome::Open);
+    if opened {
+        for bytes in [1, 8192, 4096] {
+            looking(&mut session, Call::Lend { bytes }, bus, &mut undo, &mut look);
+        }
+        looking(&mut session, Call::Close, bus, &mut undo, &mut look);
+    }
+    (opened, most)
+}
+
+/// Where no answer looks, a call does: damage behind the head is taken by the answers of a task that does not read it, and is
+/// 20 at the next call and to every reader.
+#[test]
+fn damage_behind_the_head_is_found_by_the_next_call() {
+    let mut bus = World::new(cases::variants()[0].plan.clone());
+    let (mut session, mut undo) = (Session::new(), UndoList::new(&mut []));
+    assert_eq!(session.open(&mut Over::new(&mut bus), &mut undo), Ok(Outcome::Open));
+    session.begin(Call::Lend { bytes: 1 }, &mut undo).expect("an open session");
+    let running = Copies::of(&session);
+    session.finish(&mut Over::new(&mut bus), &mut undo).expect("a lent buffer");
+    let rest = Copies::of(&session);
+    for slot in 1..SLOT_COUNT {
+        let at = SLOTS + slot * SLOT + MAPPED;
+        for word in [2, 1 << 8, 1 << 63, u64::MAX] {
+            let mut damaged = rest.clone();
+            image::put(&mut damaged.state, at, word);
+            refused(&damaged, abi::WRONG, "close", close);
+            let mut out = vec![0; abi::BOOKS];
+            for which in [Reader::Question, Reader::Result, Reader::Setup, Reader::Books] {
+                assert_eq!(ffi::read(which, &damaged.state, &mut out), abi::WRONG, "{which:?}");
+            }
+            let mut damaged = running.clone();
+            image::put(&mut damaged.state, at, word);
+            for t in [told(abi::HANDLE, 7, 0), told(abi::MAPPED, PAGE, PAGE)] {
+                assert_eq!(damaged.call(|l| ffi::answer(l, t)), 0, "slot {slot}");
+            }
+            refused(&damaged, abi::WRONG, "close", close);
+        }
+    }
+}
+
+/// Counts above their bounds are 20 to a call and to an answer that does not go on with a command.
+#[test]
+fn counts_above_their_bounds_are_no_session() {
+    let mut bus = World::new(cases::variants()[0].plan.clone());
+    let (mut session, mut undo) = (Session::new(), UndoList::new(&mut []));
+    assert_eq!(session.open(&mut Over::new(&mut bus), &mut undo), Ok(Outcome::Open));
+    let rest = Copies::of(&session);
+    session.begin(Call::Lend { bytes: 1 }, &mut undo).expect("an open session");
+    let running = Copies::of(&session);
+    for (at, most) in [(RANGES, 14), (LENDS, 64)] {
+        for (word, number) in [(most, 0), (most + 1, abi::WRONG), (1 << 32, abi::WRONG), (u64::MAX, abi::WRONG)] {
+            let with = |copies: &Copies, call: &dyn Fn(Lent) -> u32| {
+                let mut damaged = copies.clone();
+                image::put(&mut damaged.state, at, word);
+                damaged.call(call)
+            };
+            assert_eq!(with(&rest, &close), number, "word {at} is {word}");
+            assert_eq!(with(&running, &|l| ffi::answer(l, told(abi::HANDLE, 7, 0))), number, "word {at} is {word}");
+        }
+    }
+}
+
+/// An opening begins with nothing behind the head: what stood there in a session that was never opened is cleared.
+#[test]
+fn an_opening_clears_what_stands_behind_the_head() {
+    let begun = |copies: &Copies| {
+        let mut after = copies.clone();
+        assert_eq!(after.call(open), 0);
+        after.state
+    };
+    let fresh = Copies::of(&Session::new());
+    let mut other = fresh.clone();
+    for slot in 0..SLOT_COUNT {
+        (0..SLOT).for_each(|k| image::put(&mut other.state, SLOTS + slot * SLOT + k, 1));
+    }
+    assert_eq!(begun(&other), begun(&fresh));
 }
 
 /// A handle is any number, 0 as well.
@@ -403,13 +537,14 @@ fn snapshots() -> Vec<(Copies, Question)> {
 fn damage(r: &mut Prng, state: &mut [u8]) {
     for _ in 0..=r.below(3) {
         let hot = r.one_in(3);
-        let at = r.below(if hot { 27 } else { 417 }) as usize * 8;
+        let at = r.below(if hot { HEAD } else { WORDS } as u64) as usize * 8;
         let any = r.next_u64();
         let small = r.below(24);
         let word = r.pick(&[0, 1, 2, 3, small, small, 14, 15, 64, 65, 256, 0xffff_ffff, 1 << 32, u64::MAX, any]);
-        match r.below(3) {
+        match r.below(4) {
             0 => state[at + r.below(8) as usize] ^= 1 << r.below(8),
-            _ => state[at..at + 8].copy_from_slice(&word.to_le_bytes()),
+            1 => image::damage_books(r, state),
+            _ => image::put(state, at / 8, word),
         }
     }
 }

@@ -1,7 +1,7 @@
 //! The numbers of include/hca.h.
 
 /// The bytes of a session.
-pub const STATE: usize = 3336;
+pub const STATE: usize = 5160;
 /// The bytes of a mailbox.
 pub const MAILBOX: usize = 4096;
 /// The most records that can stand on an undo list.

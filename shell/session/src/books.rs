@@ -9,10 +9,20 @@ use crate::abi::Words;
 pub struct Buffer {
     /// The number that `Bus::allocate` gave.
     pub handle: u64,
-    /// The device address that `Bus::map` gave.
+    /// The device address that `Bus::map` gave; 1 where it is not mapped.
     pub address: u64,
     /// How many pages of 4,096 bytes.
     pub pages: u64,
+}
+
+impl Buffer {
+    /// The address of a buffer that is not mapped; no page has it.
+    pub const NOT_MAPPED: u64 = 1;
+
+    /// It is mapped. One that is being made, or that was unmapped and is not yet freed, is held and not mapped.
+    pub fn mapped(&self) -> bool {
+        self.address != Buffer::NOT_MAPPED
+    }
 }
 
 /// A range of ICM space: its card address, and the buffer behind it.
@@ -27,8 +37,9 @@ pub struct Range {
 /// The place of the MTT table among the ranges: it is mapped behind the four cMPT ranges and EQC.
 const MTT: usize = 5;
 
-/// The books: what the session holds, and how the command register stands. Of a session that ended with
-/// `Closing::Kept` they name everything that the card may still use.
+/// The books: what the session holds, and how the command register stands. A buffer stands in them from the good answer to
+/// its allocate to the answer to its free, at any question. Of a session that ended with `Closing::Kept` they name everything
+/// that the card may still use.
 #[derive(Clone, PartialEq, Eq, Debug)]
 pub struct Books {
     /// INIT_HCA was good.
@@ -60,19 +71,20 @@ pub struct Books {
 }
 
 impl Books {
-    /// The ICM ranges, in mapping order.
+    /// The ICM ranges that are held, in mapping order. A closing frees the first of them first.
     pub fn ranges(&self) -> &[Range] {
         &self.ranges[..self.range_count]
     }
 
-    /// The lent buffers, in lending order.
+    /// The lent buffers that are held, in lending order. A closing frees the first of them first.
     pub fn lent(&self) -> &[Buffer] {
         &self.lent[..self.lent_count]
     }
 
-    /// The memory behind the MTT table: the sixth range. None where it is not mapped.
+    /// The memory behind the MTT table: the sixth range. None where it is not mapped. While a closing frees ranges, of which
+    /// the first are gone then, it is another one.
     pub fn mtt_mem(&self) -> Option<Buffer> {
-        self.ranges().get(MTT).map(|r| r.buffer)
+        self.ranges().get(MTT).map(|r| r.buffer).filter(Buffer::mapped)
     }
 
     /// Every buffer that is held.
@@ -117,4 +129,35 @@ fn buffer(w: &Words, at: usize) -> Buffer {
 
 fn held(w: &Words, at: usize) -> Option<Buffer> {
     w.flag(at).then(|| buffer(w, at + 1))
+}
+
+#[cfg(test)]
+mod tests {
+    use super::*;
+    use crate::abi;
+
+    /// The words of books that hold an inbox, six ranges and a lent buffer, the sixth range and the lent one not mapped.
+    fn words() -> [u64; abi::BOOKS / 8] {
+        let mut w = [0; abi::BOOKS / 8];
+        (w[0], w[1]) = (6, 1);
+        w[11..15].copy_from_slice(&[1, 7, 0x1000, 1]);
+        for i in 0..6 {
+            let address = if i == 5 { 1 } else { 0x2000 };
+            w[32 + 4 * i..36 + 4 * i].copy_from_slice(&[i as u64, 8, address, 2]);
+        }
+        w[88..91].copy_from_slice(&[9, 1, 3]);
+        w
+    }
+
+    #[test]
+    fn a_buffer_that_is_not_mapped_is_held() {
+        let words = words();
+        let bytes: [u8; abi::BOOKS] = array::from_fn(|k| words[k / 8].to_le_bytes()[k % 8]);
+        let books = Books::of(&Words(&bytes)).expect("books");
+        let inbox = Buffer { handle: 7, address: 0x1000, pages: 1 };
+        assert_eq!((books.inbox, books.outbox), (Some(inbox), None));
+        assert_eq!((books.buffers().count(), books.ranges().len(), books.lent().len()), (8, 6, 1));
+        assert!(books.buffers().filter(|b| !b.mapped()).map(|b| b.handle).eq([8, 9]));
+        assert_eq!(books.mtt_mem(), None);
+    }
 }

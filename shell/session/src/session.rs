@@ -34,7 +34,7 @@ pub enum Refused {
 /// than this room no more is handed on.
 pub const LIST_BYTES: usize = 2048;
 
-/// A card's session: its bytes, the two mailboxes, and what a fence has to know. It is some 12 KB, and needs no
+/// A card's session: its bytes, the two mailboxes, and what a fence has to know. It is some 13 KB, and needs no
 /// allocation; it may be moved between two calls.
 pub struct Session {
     state: [u8; STATE],
@@ -201,7 +201,7 @@ impl Session {
         Setup::of(&Words(&out)).ok_or(Refused::Unknown)
     }
 
-    /// What the session holds.
+    /// What the session holds, at any time: also while a buffer is being made or freed.
     pub fn books(&self) -> Result<Books, Refused> {
         let mut out = [0; abi::BOOKS];
         self.read(Reader::Books, &mut out)?;

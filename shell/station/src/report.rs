@@ -119,8 +119,9 @@ fn held_by_session(out: &mut impl Write, b: &Books) -> io::Result<()> {
     let single = [of("inbox", b.inbox), of("outbox", b.outbox), of("firmware area", b.fa), of("auxiliary area", b.aux)];
     let ranges = b.ranges().iter().map(|r| ("ICM range", r.buffer));
     let lent = b.lent().iter().map(|l| ("lent", *l));
-    for (name, Buffer { handle, address, pages }) in single.into_iter().flatten().chain(ranges).chain(lent) {
-        writeln!(out, "  {name}: h{handle}, {} at {address:x}", words::pages(pages))?;
+    for (name, b) in single.into_iter().flatten().chain(ranges).chain(lent) {
+        let at = if b.mapped() { format!("at {:x}", b.address) } else { "not mapped".into() };
+        writeln!(out, "  {name}: h{}, {} {at}", b.handle, words::pages(b.pages))?;
     }
     Ok(())
 }

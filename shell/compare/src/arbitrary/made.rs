@@ -6,7 +6,7 @@ use world::prng::Prng;
 use world::registers::RESERVED;
 use world::PAGE;
 
-use crate::lists;
+use crate::{image, lists};
 
 use super::piece::{Piece, Records};
 use super::pool::{Arguments, Bytes, Step, Stop};
@@ -288,17 +288,18 @@ fn input(r: &mut Prng) -> Vec<u8> {
     garbage(r, length + 8)[..length].to_vec()
 }
 
-/// Bits, bytes and whole words are changed, up to eight of them; the first words more often.
+/// Bits, bytes and whole words are changed, up to eight of them, the first words more often; or the books.
 fn damaged(r: &mut Prng, mut state: Vec<u8>) -> Vec<u8> {
     for _ in 0..1 + r.below(8) {
-        let words = r.pick(&[10, 32, 417]);
+        let words = r.pick(&[10, image::HEAD, image::WORDS]) as u64;
         let at = r.below(words) as usize * 8;
         let (any, small) = (r.next_u64(), r.below(24));
         let word = r.pick(&[0, 1, 2, small, small, 14, 15, 64, 65, 256, 257, 0xffff_ffff, 1 << 32, u64::MAX, any]);
-        match r.below(3) {
+        match r.below(4) {
             0 => state[at + r.below(8) as usize] ^= 1 << r.below(8),
             1 => state[at + r.below(8) as usize] = any as u8,
-            _ => state[at..at + 8].copy_from_slice(&word.to_le_bytes()),
+            2 => image::put(&mut state, at / 8, word),
+            _ => image::damage_books(r, &mut state),
         }
         if r.one_in(2) {
             break;

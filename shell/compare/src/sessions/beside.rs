@@ -6,7 +6,8 @@ use std::rc::Rc;
 
 use oracle::run::{self, Driver};
 use session::abi::UNDO_RECORDS;
-use session::{Outcome, Session, UndoList};
+use session::{Outcome, Session, UndoList, LIST_BYTES};
+use world::bus::Resource;
 use world::results::{Closing, Opened, Refusal, State, Stop};
 use world::trace::Trace;
 use world::traced::Traced;
@@ -215,10 +216,16 @@ fn unlisted(ran: &Ran) -> Parts {
 }
 
 /// Compares a case whose resource lists the Rust may read otherwise than ACPI and UEFI: it is told what these documents read
-/// in them. Nothing where a list is bad, or the case lies outside the domain otherwise.
+/// in them, as far as the wrapper has room for a list. Nothing where a list is bad, which one that is cut may be, or the case
+/// lies outside the domain otherwise.
 pub fn same_read(case: &Case) -> Result<Option<Run>, Box<Difference>> {
     let mut plain = case.clone();
     plain.plan.resources.plain = true;
+    for (_, odd) in &mut plain.plan.resources.odd {
+        if let Resource::List(list) = odd {
+            list.truncate(LIST_BYTES);
+        }
+    }
     let Some(rust) = rust(&plain) else {
         return Ok(None);
     };
