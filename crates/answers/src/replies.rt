@@ -10,7 +10,7 @@ use bars::Size;
 use reply::{CapCheck, Capability, FuncReply, FwCheck, FwReply, PortReply};
 
 // A refusal's number and the value beside it; 0 where there is none.
-#[derive(Drop)]
+#[derive(Clone, Copy)]
 pub struct Code {
     pub number: u64,
     pub beside: u64,

@@ -51,7 +51,7 @@ pub fn put_ranges(out: &mut [u8], ranges: [Range; 14])
 }
 
 // The layout, where there is one, else zeros; and the refusal.
-#[derive(Drop)]
+#[derive(Clone, Copy)]
 pub struct Judged {
     pub code: Code,
     pub layout: Layout,

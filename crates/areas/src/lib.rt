@@ -1,4 +1,6 @@
 // The memory that bring-up hands to the card, area after area: a buffer is made in its slot, and is mapped by one command for each mailbox of its page list.
+#![tactic(auto)]
+
 ghost use Rattle.std.specs.Prelude.{◌≡◌};
 ghost use Rattle.session.specs.Core.{full, plan_in};
 ghost use Rattle.behind.specs.Behind.{behind_in};

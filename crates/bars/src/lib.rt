@@ -1,5 +1,7 @@
 // PCI base address registers: the address in one, the firmware's resource list of one, the two indices
 // that PCI I/O may know it by, and the choice between them as steps by value.
+#![tactic(auto)]
+
 ghost use Rattle.std.specs.Prelude.{◌≡◌, ◌<◌, ◌≤◌, length};
 ghost use Rattle.fields.specs.Outcome.{value_or};
 ghost use Rattle.fields.specs.Fields.{field_at};
@@ -16,28 +18,28 @@ pub const LAST: usize = 5;
 const INDICES: u8 = 6;
 
 // What is known of a BAR's length in bytes.
-#[derive(Drop)]
+#[derive(Clone, Copy)]
 pub enum Size {
     Known(u64),
     Unknown,
 }
 
 // The address that a BAR holds, or 4 for a register above 5.
-#[derive(Drop)]
+#[derive(Clone, Copy)]
 pub enum Address {
     At(u64),
     Refused,
 }
 
 // The two indices that a BAR may have, or 4 for a register above 5.
-#[derive(Drop)]
+#[derive(Clone, Copy)]
 pub enum Indices {
     Both { first: u8, second: u8 },
     Refused,
 }
 
 // What PCI I/O says about an index: the range of the BAR, or nothing.
-#[derive(Drop)]
+#[derive(Clone, Copy)]
 pub enum BarRange {
     Range { base: u64, length: u64 },
     NoAnswer,
@@ -45,7 +47,7 @@ pub enum BarRange {
 
 // What a firmware's resource list says of a BAR: its range, no answer, or 27 for a list that is
 // damaged or cut.
-#[derive(Drop)]
+#[derive(Clone, Copy)]
 pub enum BarList {
     Range { base: u64, length: u64 },
     NoAnswer,
@@ -75,7 +77,7 @@ impl BarList {
 
 // How an index was chosen: a candidate's base matches, or that of another index; only this candidate answered; both did, and neither base
 // matches; none did.
-#[derive(Drop)]
+#[derive(Clone, Copy)]
 pub enum How {
     BaseMatches,
     Scan,
@@ -85,7 +87,7 @@ pub enum How {
 }
 
 // The chosen index, and the length that PCI I/O gave for it.
-#[derive(Drop)]
+#[derive(Clone, Copy)]
 pub struct Pick {
     pub index: u8,
     pub size: Size,
@@ -93,14 +95,14 @@ pub struct Pick {
 }
 
 // One of the two indices that a BAR may have, and what was said about it.
-#[derive(Drop)]
+#[derive(Clone, Copy)]
 pub struct Candidate {
     pub index: u8,
     pub answer: BarRange,
 }
 
 // The question that is open: the first candidate, the second, or another index.
-#[derive(Drop)]
+#[derive(Clone, Copy)]
 pub enum Asking {
     First,
     Second,
@@ -108,7 +110,7 @@ pub enum Asking {
 }
 
 // A choice under way: the base in the registers, the candidates, and the open question.
-#[derive(Drop)]
+#[derive(Clone, Copy)]
 pub struct Choice {
     pub base: u64,
     pub first: Candidate,
@@ -117,14 +119,14 @@ pub struct Choice {
 }
 
 // What an answer leads to: the next index to ask about, or the pick.
-#[derive(Drop)]
+#[derive(Clone, Copy)]
 pub enum Next {
     Ask(u8, Choice),
     Picked(Pick),
 }
 
 // How a choice begins: the first index to ask about, or 4 for a register above 5.
-#[derive(Drop)]
+#[derive(Clone, Copy)]
 pub enum Begun {
     Ask(u8, Choice),
     Refused,

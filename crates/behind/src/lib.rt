@@ -1,5 +1,7 @@
 // What stands behind the head in the bytes of a session: the reset, the search for the UAR BAR, the capabilities, the ports and the slots, each read and written in
 // place.
+#![tactic(auto)]
+
 ghost use Rattle.std.specs.Prelude.{◌≡◌, ◌+◌, ◌*◌, ◌≤◌, ◌<◌, length, eqb, ltb};
 ghost use Rattle.words.specs.Places.{PORT, SLOT, RESET, FIND, CAP, reset_at, find_at, cap_at, port1_at, port2_at, state_bytes, state_words};
 ghost use Rattle.fields.specs.Outcome.{pick};

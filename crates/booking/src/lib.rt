@@ -1,4 +1,6 @@
 // The one writer of a slot: what an answer does to the slot of the task under way, by the question that is open and by what the task is for.
+#![tactic(auto)]
+
 ghost use Rattle.std.specs.Prelude.{◌≡◌};
 ghost use Rattle.session.specs.Session.{no_slot, unmapped_from, slot_at};
 ghost use Rattle.session.specs.Course.{slot};
@@ -15,7 +17,7 @@ use pci::{Answer, HandleReply, MapReply, Question};
 use session::{Area, Boot, Client, Close, Core, Prepare, Slot, Stage};
 
 // What a task's buffer is for: nothing; one of the mailboxes; or this slot, a range's with its card address.
-#[derive(Drop)]
+#[derive(Clone, Copy)]
 pub enum Place {
     Neither,
     Inbox,

@@ -1,4 +1,6 @@
 // Buffers made and freed, as small machines over the questions allocate, map, unmap and free.
+#![tactic(auto)]
+
 ghost use Rattle.std.specs.Prelude.{◌≡◌};
 ghost use Rattle.dma.specs.declared.Buffer.{Buffer};
 ghost use Rattle.pci.specs.Refusals.{refusal};
@@ -11,7 +13,7 @@ use dma::{Accepted, Buffer, Pages};
 use pci::{Answer, DoneReply, HandleReply, MapReply, Question, Refusal};
 
 // Why there is no buffer: memory was not to be had, or its device address cannot be used.
-#[derive(Drop)]
+#[derive(Clone, Copy)]
 pub enum Fault {
     Memory,
     Address,
@@ -30,14 +32,14 @@ impl Fault {
 }
 
 // A buffer, or why there is none.
-#[derive(Drop)]
+#[derive(Clone, Copy)]
 pub enum Made {
     Ready(Buffer),
     Refused(Fault),
 }
 
 // The open question while a buffer is made: pages are asked for, then mapped; or what was had under a handle is given up.
-#[derive(Drop)]
+#[derive(Clone, Copy)]
 pub enum MakePhase {
     Allocate,
     Map(u64),
@@ -46,28 +48,28 @@ pub enum MakePhase {
 }
 
 // A buffer that is being made, and its bytes, a whole number of pages.
-#[derive(Drop)]
+#[derive(Clone, Copy)]
 pub struct Making {
     pub bytes: u64,
     pub phase: MakePhase,
 }
 
 // Where a step leads.
-#[derive(Drop)]
+#[derive(Clone, Copy)]
 pub enum MakeStep {
     More(Making),
     Ended(Made),
 }
 
 // The open question while a buffer is freed.
-#[derive(Drop)]
+#[derive(Clone, Copy)]
 pub enum FreePhase {
     Unmap,
     Free,
 }
 
 // A buffer that is being freed.
-#[derive(Drop)]
+#[derive(Clone, Copy)]
 pub struct Freeing {
     pub handle: u64,
     pub pages: u64,
@@ -75,7 +77,7 @@ pub struct Freeing {
 }
 
 // Where a step leads.
-#[derive(Drop)]
+#[derive(Clone, Copy)]
 pub enum FreeStep {
     More(Freeing),
     Freed,

@@ -1,5 +1,7 @@
 // The calls of a session: `open`, a client's command, `lend`, `undo_to`, `quiesce` and `close`. Each works on the head by value and on the bytes, and says which question
 // is open now; or it is refused, which leaves everything as it was: 20, 21, 22, 19, 18 in this order.
+#![tactic(auto)]
+
 ghost use Rattle.std.specs.Prelude.{◌≡◌};
 ghost use Rattle.session.specs.declared.Failure.TheVariants.{Nothing};
 ghost use Rattle.session.specs.Core.{Behind, full, plan_in, ends_as};

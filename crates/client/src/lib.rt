@@ -1,4 +1,6 @@
 // A client's calls on an open session: how each begins, and what follows when one of its tasks has ended.
+#![tactic(auto)]
+
 ghost use Rattle.std.specs.Prelude.{◌≡◌, ◌<◌};
 ghost use Rattle.session.specs.declared.Core.{Core};
 ghost use Rattle.session.specs.Core.{full, plan_in, PlanIs};

@@ -1,5 +1,7 @@
 // Closing and quiesce: what follows when one of their tasks has ended. Each function begins the next task, or passes on to the step behind it. Both send the same
 // commands; then a closing gives everything back, by a reset where one is needed, and a quiesce leaves the card to itself.
+#![tactic(auto)]
+
 ghost use Rattle.std.specs.Prelude.{◌≡◌, suc, ◌-◌, ◌<◌};
 ghost use Rattle.work.specs.declared.End.TheVariants.{Cmd};
 ghost use Rattle.session.specs.Core.{full, plan_in, PlanIs};

@@ -1,4 +1,6 @@
 // One command, from the first status read to the immediate, as a machine of questions and answers.
+#![tactic(auto)]
+
 ghost use Rattle.std.specs.Prelude.{◌≡◌, ◌+◌, ◌*◌, ◌<◌, ◌≤◌};
 ghost use Rattle.hcr.specs.Words.{status_in, waited_of};
 ghost use Rattle.pci.specs.Views.{dword_of, done_of, told_of};
@@ -13,14 +15,14 @@ use hcr::{Hcr, Post};
 use pci::{Answer, DoneReply, DwordReply, Question, ToldReply};
 
 // Where the catastrophic error buffer is; unknown also where nothing is to be read after a Timeout.
-#[derive(Drop)]
+#[derive(Clone, Copy)]
 pub enum Catas {
     Known(u8, u64),
     Unknown,
 }
 
 // What a command comes to, with the microseconds waited.
-#[derive(Drop)]
+#[derive(Clone, Copy)]
 pub enum CmdResult {
     // The immediate.
     Done(u64, u64),
@@ -33,14 +35,14 @@ pub enum CmdResult {
 }
 
 // The result, and the toggle for the next command.
-#[derive(Drop)]
+#[derive(Clone, Copy)]
 pub struct CmdEnd {
     pub result: CmdResult,
     pub toggle: bool,
 }
 
 // The question that is open.
-#[derive(Drop)]
+#[derive(Clone, Copy)]
 pub enum Phase {
     // The status, before posting.
     First,
@@ -62,7 +64,7 @@ pub enum Phase {
     Catas,
 }
 
-#[derive(Drop)]
+#[derive(Clone, Copy)]
 pub struct Cmd {
     pub phase: Phase,
     pub post: Post,
@@ -71,7 +73,7 @@ pub struct Cmd {
     pub catas: Catas,
 }
 
-#[derive(Drop)]
+#[derive(Clone, Copy)]
 pub enum CmdStep {
     More(Cmd),
     Ended(CmdEnd),

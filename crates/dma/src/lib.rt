@@ -1,4 +1,6 @@
 // Memory that the card reads and writes: the record of a buffer, the blocks that a range is cut into, and the page list of one mailbox.
+#![tactic(auto)]
+
 ghost use Rattle.std.specs.Prelude.{◌≡◌, ◌+◌, ◌-◌, ◌*◌, ◌^◌, ◌<◌, ◌≤◌, min, length};
 ghost use Rattle.dma.specs.Buffers.{pages_for, page_count, accept_at, accepted, ends_within};
 ghost use Rattle.dma.specs.Blocks.{virt_of, stands, power_of, after_of, taken_of, cut_of, piece, wrapped, start_at, started};
@@ -12,7 +14,7 @@ const BYTES_MAX: u64 = u64::MAX - 4095;
 const PAGES_MAX: u64 = 4503599627370496;
 
 // Pages that the host handed over, and where the device sees them.
-#[derive(Drop)]
+#[derive(Clone, Copy)]
 pub struct Buffer {
     pub handle: u64,
     pub dev: u64,
@@ -20,28 +22,28 @@ pub struct Buffer {
 }
 
 // How many pages a number of bytes takes, or 18.
-#[derive(Drop)]
+#[derive(Clone, Copy)]
 pub enum Pages {
     Count(u64),
     Refused,
 }
 
 // A device address that can be used, or 18.
-#[derive(Drop)]
+#[derive(Clone, Copy)]
 pub enum Accepted {
     Good,
     Refused,
 }
 
 // A card address, or none: the firmware and auxiliary areas have none.
-#[derive(Drop)]
+#[derive(Clone, Copy)]
 pub enum Virt {
     At(u64),
     Absent,
 }
 
 // A range that is still to be cut: its card and host address, and the bytes left.
-#[derive(Drop)]
+#[derive(Clone, Copy)]
 pub struct Cutter {
     pub virt: Virt,
     pub phys: u64,
@@ -49,14 +51,14 @@ pub struct Cutter {
 }
 
 // A range ready to be cut, or 18.
-#[derive(Drop)]
+#[derive(Clone, Copy)]
 pub enum Started {
     Ready(Cutter),
     Refused,
 }
 
 // A block of 2^log bytes at a card address (0 if absent) and a host address.
-#[derive(Drop)]
+#[derive(Clone, Copy)]
 pub struct Block {
     pub virt: u64,
     pub phys: u64,
@@ -71,35 +73,35 @@ impl Block {
 }
 
 // The next block and what is left behind it, or the end.
-#[derive(Drop)]
+#[derive(Clone, Copy)]
 pub enum Piece {
     Next(Block, Cutter),
     End,
 }
 
 // A block that was cut, and what is left behind it.
-#[derive(Drop)]
+#[derive(Clone, Copy)]
 struct Taken {
     block: Block,
     rest: Cutter,
 }
 
 // A power of two: size is 2^log.
-#[derive(Drop)]
+#[derive(Clone, Copy)]
 struct Power {
     log: u32,
     size: u64,
 }
 
 // The blocks of one mailbox: how many, and what is left behind them.
-#[derive(Drop)]
+#[derive(Clone, Copy)]
 pub struct Listed {
     pub entries: usize,
     pub rest: Cutter,
 }
 
 // A mailbox with its page list, or 21 for one that has not 4,096 bytes.
-#[derive(Drop)]
+#[derive(Clone, Copy)]
 pub enum PageList {
     Filled(Listed),
     Short,

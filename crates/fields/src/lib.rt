@@ -1,5 +1,7 @@
 // Fields of a slice of bytes: unsigned numbers at an offset, read and written. One loop reads and one writes, for every width and both byte
 // orders. A field that passes the end of the slice is refused with 21, whatever the offset.
+#![tactic(auto)]
+
 ghost use Rattle.std.specs.Prelude.{◌≡◌, ◌+◌, ◌<◌, ◌≤◌, ◌^◌, [], length, replicate, leb};
 ghost use Rattle.fields.specs.Outcome.{pick, refused};
 ghost use Rattle.fields.specs.Fields.{place_of, number_at, put_at, fits, field_at, write_at, written_at};
@@ -7,39 +9,39 @@ ghost use Rattle.fields.specs.Fields.{read8, read16, read32, read64, written};
 ghost use Rattle.fields.specs.declared.Order.TheVariants.{Big, Little};
 
 // Which byte of a field has the greatest weight: the first, or the last.
-#[derive(Drop)]
+#[derive(Clone, Copy)]
 pub enum Order {
     Big,
     Little,
 }
 
 // What reading a field gives: its value, or 21 where it passes the end.
-#[derive(Drop)]
+#[derive(Clone, Copy)]
 pub enum Read8 {
     Value(u8),
     Short,
 }
 
-#[derive(Drop)]
+#[derive(Clone, Copy)]
 pub enum Read16 {
     Value(u16),
     Short,
 }
 
-#[derive(Drop)]
+#[derive(Clone, Copy)]
 pub enum Read32 {
     Value(u32),
     Short,
 }
 
-#[derive(Drop)]
+#[derive(Clone, Copy)]
 pub enum Read64 {
     Value(u64),
     Short,
 }
 
 // What writing a field gives: done, or 21 where it passes the end.
-#[derive(Drop)]
+#[derive(Clone, Copy)]
 pub enum Written {
     Done,
     Short,

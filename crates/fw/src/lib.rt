@@ -1,5 +1,7 @@
 // The session as it takes answers, in its bytes: an answer inside a task writes the task's own words; the end of one leads to the plan that follows, and writes the head.
 // How a call begins is the crate `calls`.
+#![tactic(auto)]
+
 ghost use Rattle.std.specs.Prelude.{◌≡◌, ◌≤◌, length};
 ghost use Rattle.words.specs.Places.{state_bytes};
 ghost use Rattle.words_laws.specs.Kept.{Rewrites};

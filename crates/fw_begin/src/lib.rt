@@ -1,4 +1,6 @@
 // What a call and an answer share: the tests behind 20 and 21, and how a plan is begun: the mailboxes are written, the head is, and the next question is open.
+#![tactic(auto)]
+
 ghost use Rattle.std.specs.Prelude.{◌≡◌};
 ghost use Rattle.session.specs.Core.{Behind, full, plan_in};
 ghost use Rattle.behind.specs.Behind.{behind_in};
@@ -15,7 +17,7 @@ use pci::{Answer, Question};
 use session::{Core, Fill, Plan, Top};
 
 // What a call says: the question that is open now, and how many undo records are left on the list.
-#[derive(Drop)]
+#[derive(Clone, Copy)]
 pub struct Said {
     pub question: Question,
     pub undo: usize,

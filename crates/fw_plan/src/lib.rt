@@ -1,10 +1,12 @@
 // What an answer leads to: `specs/Calls.antt` says it as functions on the session and on the mailboxes, `specs/Follows.antt` what it is for a session to follow the course of
 // its call, and `proofs/Session.antt` shows that it does.
+#![tactic(auto)]
+
 use pci::{Question, Refusal};
 use session::{Closing, Failure, Gave, Session};
 
 // A call's outcome: the session, why the call was refused if it was, the question that is now open, and how many undo records are left on the list.
-#[derive(Drop)]
+#[derive(Clone, Copy)]
 pub struct Turn {
     pub session: Session,
     pub refusal: Failure,
@@ -13,7 +15,7 @@ pub struct Turn {
 }
 
 // Which mailbox is zeroed at an answer.
-#[derive(Drop)]
+#[derive(Clone, Copy)]
 pub enum Wipe {
     Neither,
     Inbox,
@@ -21,7 +23,7 @@ pub enum Wipe {
 }
 
 // What has become of a session: not opened yet; a call is running; open, with what the last call gave; the opening failed, with closing's result beside it; closed.
-#[derive(Drop)]
+#[derive(Clone, Copy)]
 pub enum Outcome {
     Fresh,
     Running,
@@ -31,7 +33,7 @@ pub enum Outcome {
 }
 
 // The limits of what is lent.
-#[derive(Drop)]
+#[derive(Clone, Copy)]
 pub struct Lent {
     pub undo: usize,
 }

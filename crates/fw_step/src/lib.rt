@@ -1,5 +1,7 @@
 // An answer to the task under way, in the bytes of the session: the slot that it books, the task's own words, a mailbox that is zeroed; and what a reply leaves behind the
 // head.
+#![tactic(auto)]
+
 ghost use Rattle.std.specs.Prelude.{◌≡◌};
 ghost use Rattle.words_session.specs.Image.{put_task};
 ghost use Rattle.words_laws.specs.Kept.{Rewrites};
@@ -19,7 +21,7 @@ use session::{Core, Note, Prepare, Stage};
 use work::{Ending, Task};
 
 // What an answer makes of the task: the task, how it ended, and the mailbox that is zeroed if it goes on.
-#[derive(Drop)]
+#[derive(Clone, Copy)]
 pub struct Took {
     pub task: Task,
     pub ending: Ending,

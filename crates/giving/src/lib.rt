@@ -1,5 +1,7 @@
 // What closing gives back, in its order, and how a session ends; how a task has ended is read here too. Each function begins the next task, or passes on to the step
 // behind it.
+#![tactic(auto)]
+
 ghost use Rattle.std.specs.Prelude.{◌≡◌, true, ◌-◌};
 ghost use Rattle.work.specs.declared.Task.TheVariants.{Rest};
 ghost use Rattle.session.specs.declared.Stage.TheVariants.{Open, Ended};
@@ -20,7 +22,7 @@ use tasks::Parting;
 use work::{End, Task};
 
 fn failed_command() -> CmdEnd
-    ensures* { λ r. ⌜ r ≡ record { result = Bus 0; toggle = true } ⌝ }
+    ensures { result ≡ record { result = Bus 0; toggle = true } }
 {
     CmdEnd {
         result: CmdResult::Bus(0),

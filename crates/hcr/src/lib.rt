@@ -1,9 +1,11 @@
 // The command register, as words: what is written to post a command, and what its status says.
+#![tactic(auto)]
+
 ghost use Rattle.std.specs.Prelude.{◌≡◌, ◌+◌, ◌*◌, ◌<◌, ◌≤◌};
 ghost use Rattle.hcr.specs.Words.{pending_in, status_in, first_toggle, go_word, swap_of, writes_of, stall_of, waited_of, is_reserved, digit, write};
 
 // The command register's place, its bits, and the limit of a wait.
-#[derive(Drop)]
+#[derive(Clone, Copy)]
 pub struct Hcr {
     // The T value that the next command is posted with.
     pub toggle: bool,
@@ -30,7 +32,7 @@ impl Hcr {
 }
 
 // The commands of bring-up and closing.
-#[derive(Drop)]
+#[derive(Clone, Copy)]
 pub struct Op {
     pub code: u16,
 }
@@ -75,7 +77,7 @@ impl Op {
 }
 
 // A command as it is posted: opcode and modifier, input modifier, input and output parameter.
-#[derive(Drop)]
+#[derive(Clone, Copy)]
 pub struct Post {
     pub op: u16,
     pub op_mod: u8,
@@ -85,7 +87,7 @@ pub struct Post {
 }
 
 // A write to a register of BAR 0, with the value as the bus carries it.
-#[derive(Drop)]
+#[derive(Clone, Copy)]
 pub struct RegWrite {
     pub offset: u64,
     pub value: u32,

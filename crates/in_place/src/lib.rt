@@ -1,5 +1,7 @@
 // A command that goes on, in place: an answer that does not end it reads and writes the command's own words of the session, and what is asked. Words 1 and 2 have its
 // phase, word 8 its toggle, word 9 its stalls; no other byte of the session is written, and none behind word 9 is read.
+#![tactic(auto)]
+
 ghost use Rattle.std.specs.Prelude.{◌≡◌, ◌/◌, ◌<◌, [], ◌∷◌};
 ghost use Rattle.hcr.specs.Words.{register, swap_of};
 ghost use Rattle.pci.specs.declared.Question.TheVariants as q;
@@ -13,7 +15,7 @@ use pci::Question;
 
 // What a command that goes on asks next. No value is narrower than 32 bits: with one of eight the compiler packs all of it into one number, and no longer sees through
 // the match, which cost ten instructions an answer.
-#[derive(Drop)]
+#[derive(Clone, Copy)]
 pub enum Next {
     // Word i of the six before the last.
     Write(u64),

@@ -1,4 +1,6 @@
 // The mailboxes that bring-up fills field by field: INIT_HCA and MOD_STAT_CFG.
+#![tactic(auto)]
+
 ghost use Rattle.std.specs.Prelude.{◌≡◌, ◌||◌, ◌+◌, ◌≤◌, eqb, length};
 ghost use Rattle.fields.specs.Outcome.{pick};
 ghost use Rattle.reply.specs.Capability.{bit};
@@ -11,7 +13,7 @@ use layout::Table;
 use reply::{DevCap, Kind};
 
 // A field of a mailbox: a big-endian number.
-#[derive(Drop)]
+#[derive(Clone, Copy)]
 pub struct Field {
     pub offset: usize,
     pub width: usize,
@@ -61,7 +63,7 @@ impl Field {
 }
 
 // What INIT_HCA tells the card: where each table stands and how large it is, by exponents of two; and what is to be switched on.
-#[derive(Drop)]
+#[derive(Clone, Copy)]
 pub struct InitHca {
     pub flags: u32,
     pub qpc: u64,

@@ -1,5 +1,7 @@
 // The task under way, in the bytes of a session: its question, and what an answer makes of it. A reset and the search for the UAR BAR are read and written in
 // place, in their own words; every other task is by value.
+#![tactic(auto)]
+
 ghost use Rattle.std.specs.Prelude.{◌≡◌};
 ghost use Rattle.work.specs.Work.{working, work_asks, work_step_of};
 ghost use Rattle.work.specs.declared.Task.TheVariants.{Reset as resetTask, Bar as barTask};
@@ -14,7 +16,7 @@ use uar::FindBar;
 use work::{Ending, Task, Work};
 
 // The task after an answer, and how it ended.
-#[derive(Drop)]
+#[derive(Clone, Copy)]
 pub struct Going {
     pub task: Task,
     pub ending: Ending,

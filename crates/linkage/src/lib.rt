@@ -1,6 +1,8 @@
 // The session over C linkage: functions over numbers, byte slices and the caller's undo records. Between two calls the session is bytes that the caller keeps; a call
 // reads them, and writes them again unless it is refused: where they held a session, they then hold what the call has made of it. Each function gives 0, or document
 // 01's number.
+#![tactic(auto)]
+
 ghost use Rattle.std.specs.Prelude.{◌≡◌, length};
 ghost use Rattle.fields.specs.Outcome.{number_of};
 ghost use Rattle.undo.specs.List.{undo_of, top_of, push_of, pushed_in};

@@ -1,5 +1,7 @@
 // Reads a capability reply on standard input and prints the layout of the ICM tables, in the order of their bases: name, entry size and count in
 // decimal, bytes and base in hexadecimal; then the total. Where the reply or its layout is refused, it prints `refused` and the number.
+#![tactic(auto)]
+
 use bars::Size;
 use layout::{Fit, Layout, Table};
 use reply::{CapCheck, DevCap, Kind};

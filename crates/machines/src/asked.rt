@@ -3,7 +3,7 @@ use crate::text;
 use pci::Question;
 
 // The kind and the values.
-#[derive(Drop)]
+#[derive(Clone, Copy)]
 pub(crate) struct Asked {
     pub kind: u8,
     pub a: u64,

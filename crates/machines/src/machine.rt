@@ -7,7 +7,7 @@ use tasks::{Attr, AttrStep, Attributes, Claim, ClaimStep, Claimed, Parting, Part
 use uar::{BarEnding, FindBar, Found};
 
 // How a machine ended: document 01's number, or 0, and values.
-#[derive(Drop)]
+#[derive(Clone, Copy)]
 pub(crate) struct End {
     pub number: u32,
     pub a: u64,
@@ -17,7 +17,7 @@ pub(crate) struct End {
 }
 
 // The task that runs. A reset and the search for a BAR hold arrays, and stand beside it.
-#[derive(Drop)]
+#[derive(Clone, Copy)]
 pub(crate) enum Task {
     Command(Cmd),
     Reset,
@@ -30,7 +30,7 @@ pub(crate) enum Task {
     Over(End),
 }
 
-#[derive(Drop)]
+#[derive(Clone, Copy)]
 pub(crate) struct Machine {
     pub task: Task,
     // Whether the immediate of a command is told.

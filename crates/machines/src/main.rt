@@ -1,5 +1,7 @@
 // Runs the small machines of a session on stored answers: reads records on standard input, each a machine, what it starts with and the answers that its
 // questions get, and prints every question, one to a line, and how the machine ended. docs/REPLAY.md has the form of the input.
+#![tactic(auto)]
+
 mod asked;
 mod machine;
 mod record;
@@ -11,7 +13,7 @@ use libc::STDIN_FILENO;
 use record::Head;
 
 // A record that was run; the end of the list; or a record that is cut off or too long.
-#[derive(Drop)]
+#[derive(Clone, Copy)]
 enum Read {
     Record,
     End,

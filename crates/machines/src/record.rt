@@ -4,7 +4,7 @@ ghost use Rattle.std.specs.Prelude.{◌≡◌, ◌+◌, ◌*◌, ◌≤◌, ◌<
 
 use pci::Answer;
 
-#[derive(Drop)]
+#[derive(Clone, Copy)]
 pub(crate) struct Head {
     pub machine: u16,
     pub words: u16,
@@ -13,7 +13,7 @@ pub(crate) struct Head {
 }
 
 // A stored answer: its kind; how often it and the one before it are given in turn, where that is more than once; and its values.
-#[derive(Drop)]
+#[derive(Clone, Copy)]
 pub(crate) struct Stored {
     pub kind: u8,
     pub times: u64,

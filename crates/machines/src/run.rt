@@ -8,7 +8,7 @@ use crate::{asked, machine, record, start, text};
 use pci::Answer;
 
 // How far a run is: the next answer, how often the pair that it ends was given, the last two questions, and whether the answers ran out.
-#[derive(Drop)]
+#[derive(Clone, Copy)]
 struct Place {
     at: u16,
     given: u64,

@@ -1,5 +1,7 @@
 // Bring-up: what follows when one of its tasks has ended. Each function begins the next task, or passes on to the step behind it. What a reply leaves behind the head is
 // noted there before.
+#![tactic(auto)]
+
 ghost use Rattle.std.specs.Prelude.{◌≡◌, ◌*◌};
 ghost use Rattle.reply.specs.Capability.{capability_of};
 ghost use Rattle.reply.specs.Replies.{query_fw, query_func, query_port_of};

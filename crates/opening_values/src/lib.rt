@@ -1,4 +1,6 @@
 // What the steps of an opening share: how a task has ended, what the head and the notes on the card hold then, commands of each form, and how an opening fails.
+#![tactic(auto)]
+
 ghost use Rattle.std.specs.Prelude.{◌≡◌};
 ghost use Rattle.fields.specs.Outcome.{value_or};
 ghost use Rattle.layout.specs.Layout.{no_layout};

@@ -1,4 +1,6 @@
 // The questions that a session asks and the answers it takes. A session touches no bus: the shell does what a question says and hands in the answer.
+#![tactic(auto)]
+
 ghost use Rattle.std.specs.Prelude.{◌≡◌};
 ghost use Rattle.fields.specs.Outcome.{number_of};
 ghost use Rattle.pci.specs.Refusals.{refusal};
@@ -6,7 +8,7 @@ ghost use Rattle.pci.specs.Views.{word_of, dword_of, qword_of, done_of, told_of,
 ghost use Rattle.pci.specs.Suits.{is_word, is_dword, is_qword, is_done, is_told, is_handle, is_map, is_list, suits_of};
 
 // One kind for each bus call, a fence, and finished. Registers carry their value as the bus does.
-#[derive(Drop)]
+#[derive(Clone, Copy)]
 pub enum Question {
     ConfigRead16(u16),
     ConfigRead32(u16),
@@ -35,7 +37,7 @@ pub enum Question {
 }
 
 // What the shell says: one kind for each kind of reply.
-#[derive(Drop)]
+#[derive(Clone, Copy)]
 pub enum Answer {
     Word(u16),
     Dword(u32),
@@ -51,7 +53,7 @@ pub enum Answer {
 }
 
 // What stops a session, with the values beside it; microseconds are the last value.
-#[derive(Drop)]
+#[derive(Clone, Copy)]
 pub enum Refusal {
     Attributes,
     Owner,
@@ -114,28 +116,28 @@ impl Refusal {
 }
 
 // What an answer says to a question of each kind; `Wrong` where it is of another kind, which is 20.
-#[derive(Drop)]
+#[derive(Clone, Copy)]
 pub enum WordReply {
     Got(u16),
     Failed,
     Wrong,
 }
 
-#[derive(Drop)]
+#[derive(Clone, Copy)]
 pub enum DwordReply {
     Got(u32),
     Failed,
     Wrong,
 }
 
-#[derive(Drop)]
+#[derive(Clone, Copy)]
 pub enum QwordReply {
     Got(u64),
     Failed,
     Wrong,
 }
 
-#[derive(Drop)]
+#[derive(Clone, Copy)]
 pub enum DoneReply {
     Done,
     Failed,
@@ -143,27 +145,27 @@ pub enum DoneReply {
 }
 
 // A stall and a fence cannot fail.
-#[derive(Drop)]
+#[derive(Clone, Copy)]
 pub enum ToldReply {
     Told,
     Wrong,
 }
 
-#[derive(Drop)]
+#[derive(Clone, Copy)]
 pub enum HandleReply {
     Got(u64),
     Failed,
     Wrong,
 }
 
-#[derive(Drop)]
+#[derive(Clone, Copy)]
 pub enum MapReply {
     Got(u64, u64),
     Failed,
     Wrong,
 }
 
-#[derive(Drop)]
+#[derive(Clone, Copy)]
 pub enum ListReply {
     Got,
     Failed,

@@ -1,4 +1,6 @@
 // From the capabilities over the ports to the layout: what follows the replies to QUERY_DEV_CAP and QUERY_PORT, which are noted behind the head already.
+#![tactic(auto)]
+
 ghost use Rattle.std.specs.Prelude.{◌≡◌};
 ghost use Rattle.fields.specs.Outcome.{pick};
 ghost use Rattle.reply.specs.Capability.{capability};

@@ -1,5 +1,7 @@
 // Before bring-up: what follows when a task has ended, from the attributes to the first look at the command register. Each function begins the next task, or passes on to
 // the step behind it.
+#![tactic(auto)]
+
 ghost use Rattle.std.specs.Prelude.{◌≡◌};
 ghost use Rattle.session.specs.declared.Failure.TheVariants.{By};
 ghost use Rattle.session.specs.declared.Closing.TheVariants.{Clean};

@@ -1,12 +1,14 @@
 // The reader of a reply: it holds the reply's bytes, and answers the field at an offset or refuses with 21. The borrow checker covers no function
 // over such a struct, so each method leaves the work to a function of `fields` on the slice and the offset, and is proved by hand.
+#![tactic(auto)]
+
 ghost use Rattle.std.specs.Prelude.{◌≡◌};
 ghost use Rattle.fields.specs.Fields.{field_at, read8, read16, read32, read64};
 ghost use Rattle.fields.specs.declared.Order.TheVariants.{Big};
 
 use fields::{Read8, Read16, Read32, Read64};
 
-#[derive(Drop)]
+#[derive(Clone, Copy)]
 pub struct Reader<'a> {
     reply: &'a [u8],
 }

@@ -1,4 +1,6 @@
 // What can be read of a session without changing it: its open question, what has become of it, what the opening has found out, and its books.
+#![tactic(auto)]
+
 ghost use Rattle.std.specs.Prelude.{◌≡◌};
 ghost use Rattle.session.specs.Core.{Behind, full};
 ghost use Rattle.behind.specs.Behind.{behind_in};

@@ -1,5 +1,7 @@
 // Reads stored answers of the Rust on standard input, computes each anew with the proved leaves, and prints for each leaf its name, how many answers
 // were compared and how many differ. docs/REPLAY.md has the form of the input, and how it is made.
+#![tactic(auto)]
+
 mod bar;
 mod field;
 mod memory;
@@ -14,14 +16,14 @@ use libc::{STDIN_FILENO, STDOUT_FILENO};
 use records::Head;
 
 // How many answers of each leaf were compared, and how many of them differ; last those with a number that no leaf has.
-#[derive(Drop)]
+#[derive(Clone, Copy)]
 struct Tally {
     compared: [u64; 38],
     differ: [u64; 38],
 }
 
 // A record that was read, and whether its answer is the same; the end of the list; or a record that is cut off or too long.
-#[derive(Drop)]
+#[derive(Clone, Copy)]
 enum Read {
     Record(usize, bool),
     End,

@@ -1,4 +1,6 @@
 // What the card's replies say. A reply is read through a reader over its bytes; one too short for its fields is refused with 21.
+#![tactic(auto)]
+
 ghost use Rattle.std.specs.Prelude.{◌&&◌, ◌≡◌, ◌+◌, ◌*◌, ◌/◌, ◌%◌, ◌^◌, ◌<◌, ◌≤◌, max, length, eqb};
 ghost use Rattle.fields.specs.Fields.{be};
 ghost use Rattle.fields.specs.Outcome.{value_or, number_of, pick};
@@ -10,7 +12,7 @@ use bars::Size;
 use fields::{Read8, Read16, Read32, Read64};
 
 // The kinds of ICM table, by index, and what is fixed for each.
-#[derive(Drop)]
+#[derive(Clone, Copy)]
 pub struct Kind {
     pub index: usize,
 }
@@ -54,7 +56,7 @@ impl Kind {
 }
 
 // Which table's entry size stands where in a capability reply.
-#[derive(Drop)]
+#[derive(Clone, Copy)]
 pub struct Place {
     pub table: usize,
     pub offset: usize,
@@ -109,7 +111,7 @@ pub const ENTRIES: [Place; 10] = [
 ];
 
 // The fields of a capability reply (QUERY_DEV_CAP). Each type holds every value that a reply can give.
-#[derive(Drop)]
+#[derive(Clone, Copy)]
 pub struct DevCap {
     // Counts, each a power of two.
     pub rsvd_qps: u16,
@@ -142,7 +144,7 @@ pub struct DevCap {
 }
 
 // What the tests on a capability reply say, in their order.
-#[derive(Drop)]
+#[derive(Clone, Copy)]
 pub enum CapCheck {
     Good,
     Short,
@@ -169,7 +171,7 @@ impl CapCheck {
 }
 
 // The capabilities, where the reply is good; else all are 0.
-#[derive(Drop)]
+#[derive(Clone, Copy)]
 pub struct Capability {
     pub check: CapCheck,
     pub cap: DevCap,
@@ -432,7 +434,7 @@ pub fn dev_cap(reply: &[u8], bar: Size) -> Capability
 }
 
 // What QUERY_FW says: the pages that the firmware asks for, its version, the revision of the command interface, and where the catastrophic error buffer is.
-#[derive(Drop)]
+#[derive(Clone, Copy)]
 pub struct FwInfo {
     pub pages: u16,
     pub major: u16,
@@ -446,7 +448,7 @@ pub struct FwInfo {
     pub catas_bar: u8,
 }
 
-#[derive(Drop)]
+#[derive(Clone, Copy)]
 pub enum FwCheck {
     Good,
     Short,
@@ -454,7 +456,7 @@ pub enum FwCheck {
 }
 
 // The fields, also where the revision is refused; all 0 where the reply is too short.
-#[derive(Drop)]
+#[derive(Clone, Copy)]
 pub struct FwReply {
     pub check: FwCheck,
     pub info: FwInfo,
@@ -544,7 +546,7 @@ pub fn query_fw(reply: &[u8], bar: u8) -> FwReply
 }
 
 // What QUERY_PORT says of one port.
-#[derive(Drop)]
+#[derive(Clone, Copy)]
 pub struct PortInfo {
     pub num: u8,
     pub link_up: bool,
@@ -564,7 +566,7 @@ pub struct PortInfo {
 }
 
 // The port, or 21 where the reply is too short: then all is 0.
-#[derive(Drop)]
+#[derive(Clone, Copy)]
 pub struct PortReply {
     pub short: bool,
     pub info: PortInfo,
@@ -647,14 +649,14 @@ pub fn query_port(reply: &[u8], num: u8) -> PortReply
 }
 
 // What QUERY_FUNC says on a card with system EQs: it replaces three capability fields.
-#[derive(Drop)]
+#[derive(Clone, Copy)]
 pub struct FuncInfo {
     pub rsvd_eqs: u16,
     pub max_eqs: u16,
     pub rsvd_uars: u8,
 }
 
-#[derive(Drop)]
+#[derive(Clone, Copy)]
 pub enum FuncReply {
     Good(FuncInfo),
     Short,

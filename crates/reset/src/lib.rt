@@ -1,4 +1,6 @@
 // The reset of the card, as a small machine: config saved, semaphore taken, the reset written, the card back, config restored.
+#![tactic(auto)]
+
 ghost use Rattle.std.specs.Prelude.{◌≡◌, ◌≤◌, ◌+◌};
 ghost use Rattle.reset.specs.declared.Phase.TheVariants.{Back};
 ghost use Rattle.reset.specs.Reset.{is_good, dword_at, restored_at, pointer};
@@ -9,7 +11,7 @@ ghost use Rattle.reset.specs.Steps.{saves, moved_of, move_at, reset_step_of, res
 use pci::{Answer, DoneReply, DwordReply, Question, ToldReply, WordReply};
 
 // How a reset ends: good, or in which part of it. At the semaphore with its last value, or 0 where it could not be read.
-#[derive(Drop)]
+#[derive(Clone, Copy)]
 pub enum ResetEnd {
     Good,
     Save,
@@ -34,14 +36,14 @@ impl ResetEnd {
 }
 
 // The control words of the PCI Express capability: where it stands, device control and link control; or none that was read.
-#[derive(Drop)]
+#[derive(Clone, Copy)]
 pub enum Control {
     Absent,
     Saved(u8, u16, u16),
 }
 
 // The open question of a reset.
-#[derive(Drop)]
+#[derive(Clone, Copy)]
 pub enum Phase {
     // A config dword is read, and how many are left after it.
     Saving(u8),
@@ -69,7 +71,7 @@ pub enum Phase {
 }
 
 // A reset under way: its open question, the saved config dwords, and the saved control words.
-#[derive(Drop)]
+#[derive(Clone, Copy)]
 pub struct Reset {
     pub phase: Phase,
     pub dwords: [u32; 16],
@@ -114,20 +116,20 @@ impl Reset {
 }
 
 // Where a step leads: it goes on, or has ended.
-#[derive(Drop)]
+#[derive(Clone, Copy)]
 pub enum Ending {
     Going,
     Ended(ResetEnd),
 }
 
-#[derive(Drop)]
+#[derive(Clone, Copy)]
 pub struct ResetStep {
     pub reset: Reset,
     pub ending: Ending,
 }
 
 // What an answer does to a reset: nothing; another question; a config dword was read, with so many left; the control words are known; the end.
-#[derive(Drop)]
+#[derive(Clone, Copy)]
 pub enum Move {
     Stay,
     To(Phase),

@@ -1,4 +1,6 @@
 // What has become of a session, what an opening has found out, and what the books hold, as words.
+#![tactic(auto)]
+
 ghost use Rattle.std.specs.Prelude.{◌≡◌, [], ◌+◌, ◌-◌, ◌*◌, ◌<◌, ◌≤◌, length};
 ghost use Rattle.fields.specs.Outcome.{pick};
 ghost use Rattle.words.specs.Words.{put_words, flat};

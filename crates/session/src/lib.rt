@@ -1,4 +1,6 @@
 // The session by value: how far it has come, the task under way, its books, and what the card has said.
+#![tactic(auto)]
+
 ghost use Rattle.std.specs.Prelude.{◌≡◌, ◌+◌, ◌*◌, ◌%◌, ◌<◌};
 ghost use Rattle.session.specs.declared.Fill.TheVariants.{Nothing};
 ghost use Rattle.session.specs.Session.{fresh, bookkeeps, catas_for, end_seen};
@@ -16,7 +18,7 @@ use reply::{DevCap, FuncInfo, PortInfo};
 use work::{End, Task, Work};
 
 // A slot of the books: how many runs of pages it has, none or one; the card address, of a range; the run's handle, device address and pages, and whether it is mapped.
-#[derive(Drop)]
+#[derive(Clone, Copy)]
 pub struct Slot {
     pub runs: u64,
     pub virt: u64,
@@ -44,7 +46,7 @@ impl Slot {
 
 // How the command register stands: the toggle of the next command; whether a command may still run, its end not seen; whether the card can no longer be trusted
 // with commands; whether a quiesce has begun, from which on a Timeout is looked into no more; and where the catastrophic buffer is.
-#[derive(Drop)]
+#[derive(Clone, Copy)]
 pub struct Wire {
     pub toggle: bool,
     pub running: bool,
@@ -55,7 +57,7 @@ pub struct Wire {
 
 // The buffers in the order in which a closing frees them: 0 to 63 lent, in lending order; 64 to 77 the ranges, in mapping order; 78 the auxiliary area; 79 the firmware
 // area; 80 the inbox; 81 the outbox. And how many were lent and mapped.
-#[derive(Drop)]
+#[derive(Clone, Copy)]
 pub struct Lists {
     pub slots: [Slot; 82],
     pub ranges: usize,
@@ -63,7 +65,7 @@ pub struct Lists {
 }
 
 // What the session holds; whether INIT_HCA was seen good; the attributes before the opening.
-#[derive(Drop)]
+#[derive(Clone, Copy)]
 pub struct Books {
     pub wire: Wire,
     pub lists: Lists,
@@ -73,7 +75,7 @@ pub struct Books {
 
 // What the card and the host have said: the UAR BAR, the capabilities, what QUERY_FUNC replaces of them, the ports, and whether the command interface has
 // revision 3.
-#[derive(Drop)]
+#[derive(Clone, Copy)]
 pub struct Info {
     pub uar: Pick,
     pub cap: DevCap,
@@ -84,7 +86,7 @@ pub struct Info {
 }
 
 // The newest record of the caller's undo list, and how many there are.
-#[derive(Drop)]
+#[derive(Clone, Copy)]
 pub struct Top {
     pub count: usize,
     pub op: u16,
@@ -94,7 +96,7 @@ pub struct Top {
 }
 
 // What a buffer is for: the firmware area, the auxiliary area, or range i of the layout.
-#[derive(Drop)]
+#[derive(Clone, Copy)]
 pub enum Area {
     Fa,
     Aux,
@@ -102,7 +104,7 @@ pub enum Area {
 }
 
 // What the task under way is for, before the first command.
-#[derive(Drop)]
+#[derive(Clone, Copy)]
 pub enum Prepare {
     Attributes,
     Claim,
@@ -114,7 +116,7 @@ pub enum Prepare {
 }
 
 // What the command or the buffer under way is for, in bring-up. A page list has what is left of its area behind the mailbox that is posted.
-#[derive(Drop)]
+#[derive(Clone, Copy)]
 pub enum Boot {
     QueryFw,
     Make(Area),
@@ -130,7 +132,7 @@ pub enum Boot {
 }
 
 // What the task under way is for, in a closing. `Undo` has how many more may be sent; the ranges below `Unmap` are still to be unmapped; the slots from that of `Free` on are still to be freed. A quiesce sends the same commands, and ends with `Quiesce`.
-#[derive(Drop)]
+#[derive(Clone, Copy)]
 pub enum Close {
     Undo(u32),
     CloseHca,
@@ -145,7 +147,7 @@ pub enum Close {
 }
 
 // The five forms of a client's command: which mailboxes it names, and whether it gives an immediate.
-#[derive(Drop)]
+#[derive(Clone, Copy)]
 pub enum Form {
     Imm,
     WithIn,
@@ -156,7 +158,7 @@ pub enum Form {
 
 // What the task under way is for, in a client's call on an open session: a command; a buffer to be lent, in this slot; the newest undo record, while more than so many are on the
 // list, with how many more may be sent.
-#[derive(Drop)]
+#[derive(Clone, Copy)]
 pub enum Client {
     Command(Form),
     Lend(usize),
@@ -164,7 +166,7 @@ pub enum Client {
 }
 
 // What the last call on an open session gave: nothing; a command's immediate and the microseconds waited; the slot of the buffer that was lent; or why it failed.
-#[derive(Drop)]
+#[derive(Clone, Copy)]
 pub enum Gave {
     Nothing,
     Command(u64, u64),
@@ -173,7 +175,7 @@ pub enum Gave {
 }
 
 // Before the opening, between calls, and after the end nothing is under way.
-#[derive(Drop)]
+#[derive(Clone, Copy)]
 pub enum Stage {
     Fresh,
     Open(Gave),
@@ -185,21 +187,21 @@ pub enum Stage {
 }
 
 // Why the opening failed; `Nothing` in a close.
-#[derive(Drop)]
+#[derive(Clone, Copy)]
 pub enum Failure {
     Nothing,
     By(Refusal),
 }
 
 // How a closing went: by commands alone, by a reset, or not at all, and everything is kept.
-#[derive(Drop)]
+#[derive(Clone, Copy)]
 pub enum Closing {
     Clean,
     Reset,
     Kept,
 }
 
-#[derive(Drop)]
+#[derive(Clone, Copy)]
 pub struct Session {
     pub stage: Stage,
     pub work: Work,
@@ -211,7 +213,7 @@ pub struct Session {
 
 // What is to be written to the mailboxes before the next question: nothing; the outbox zeroed; the next page list, the MOD_STAT_CFG or the INIT_HCA fields in
 // the inbox.
-#[derive(Drop)]
+#[derive(Clone, Copy)]
 pub enum Fill {
     Nothing,
     Outbox,
@@ -221,7 +223,7 @@ pub enum Fill {
 }
 
 // Where a plan leads: the session, what is to be written, and how many undo records are left on the list.
-#[derive(Drop)]
+#[derive(Clone, Copy)]
 pub struct Planned {
     pub session: Session,
     pub fill: Fill,
@@ -230,7 +232,7 @@ pub struct Planned {
 
 // The head of a session by value: all of it but the parts that stand behind the head in the session's bytes, which are read and written there: the reset and the
 // search for the UAR BAR, the capabilities, the ports, and the slots.
-#[derive(Drop)]
+#[derive(Clone, Copy)]
 pub struct Core {
     pub stage: Stage,
     pub task: Task,
@@ -247,7 +249,7 @@ pub struct Core {
 }
 
 // What a reply in the outbox leaves behind the head: nothing, the capabilities, or what it says of a port.
-#[derive(Drop)]
+#[derive(Clone, Copy)]
 pub enum Note {
     Nothing,
     Cap,
@@ -256,7 +258,7 @@ pub enum Note {
 
 // Where a plan leads, as the code has it: the head, what is to be written to the mailboxes, and how many undo records are left. A reset or a search for the UAR BAR that begins
 // with it begins anew.
-#[derive(Drop)]
+#[derive(Clone, Copy)]
 pub struct Plan {
     pub core: Core,
     pub fill: Fill,

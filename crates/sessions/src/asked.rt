@@ -2,7 +2,7 @@
 use crate::{item, text};
 
 // What a call gives: 0 or its refusal; the kind of the question and its values; and how many undo records are left.
-#[derive(Drop)]
+#[derive(Clone, Copy)]
 pub(crate) struct Asked {
     pub refusal: u32,
     pub kind: u64,

@@ -2,7 +2,7 @@
 use fields::{Order, Read64};
 use libc::STDIN_FILENO;
 
-#[derive(Drop)]
+#[derive(Clone, Copy)]
 pub(crate) struct Item {
     pub kind: u8,
     pub a: u64,

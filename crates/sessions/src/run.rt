@@ -5,7 +5,7 @@ use crate::{asked, item, text, told};
 use session::Top;
 
 // How far a list is: the kind of its last call; and the undo list, which is the caller's: how many records there are, and the two values of each, oldest first.
-#[derive(Drop)]
+#[derive(Clone, Copy)]
 struct Place {
     call: u8,
     undo: u64,

@@ -1,4 +1,6 @@
 // The small tasks of an opening and a closing: attributes, claim, release, restore, and the tail of quiesce.
+#![tactic(auto)]
+
 ghost use Rattle.std.specs.Prelude.{◌≡◌};
 ghost use Rattle.tasks.specs.Attributes.{wanted, got_step, supported_step, enable_step, attr_asks, attr_step_of};
 ghost use Rattle.tasks.specs.Claim.{without_intx, command_step, wrote_step, owner_step, claim_asks, claim_step_of};
@@ -8,21 +10,21 @@ ghost use Rattle.tasks.specs.Parting as e;
 use pci::{Answer, DoneReply, DwordReply, Question, QwordReply, ToldReply, WordReply};
 
 // The attributes are enabled, with those that were there before; or 1.
-#[derive(Drop)]
+#[derive(Clone, Copy)]
 pub enum Attributes {
     Enabled(u64),
     Refused,
 }
 
 // The open question of the attributes: get, supported, or enable, with the value that get gave and the one to enable.
-#[derive(Drop)]
+#[derive(Clone, Copy)]
 pub enum Attr {
     Get,
     Supported(u64),
     Enable(u64, u64),
 }
 
-#[derive(Drop)]
+#[derive(Clone, Copy)]
 pub enum AttrStep {
     More(Attr),
     Ended(Attributes),
@@ -45,21 +47,21 @@ impl Attr {
 }
 
 // The device is claimed, or 2.
-#[derive(Drop)]
+#[derive(Clone, Copy)]
 pub enum Claimed {
     Good,
     Refused,
 }
 
 // The open question of a claim: the command word is read, written with INTx disabled, and the owner read.
-#[derive(Drop)]
+#[derive(Clone, Copy)]
 pub enum Claim {
     Command,
     Write(u16),
     Owner,
 }
 
-#[derive(Drop)]
+#[derive(Clone, Copy)]
 pub enum ClaimStep {
     More(Claim),
     Ended(Claimed),
@@ -78,7 +80,7 @@ impl Claim {
 
 // The open question of a parting, whose failures are passed over. Release: the owner is written, then a stall. Restore: the attributes are set again. The
 // tail of quiesce: the owner is written, the command word read, and written with bus master off.
-#[derive(Drop)]
+#[derive(Clone, Copy)]
 pub enum Parting {
     Disown,
     Settle,
@@ -88,7 +90,7 @@ pub enum Parting {
     Write(u16),
 }
 
-#[derive(Drop)]
+#[derive(Clone, Copy)]
 pub enum PartingStep {
     More(Parting),
     Ended,

@@ -1,4 +1,6 @@
 // An answer to the open question as its kind and its values: a command that goes on touches its own words alone; every other answer goes by the head.
+#![tactic(auto)]
+
 ghost use Rattle.std.specs.Prelude.{◌≡◌};
 ghost use Rattle.words_calls.specs.Calls.{heard_of};
 ghost use Rattle.abi.specs.Turns as t;

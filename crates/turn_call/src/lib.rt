@@ -1,4 +1,6 @@
 // A call as its kind and its values, on the session that bytes hold.
+#![tactic(auto)]
+
 ghost use Rattle.std.specs.Prelude.{◌≡◌};
 ghost use Rattle.abi.specs.Turns as t;
 ghost use Rattle.abi.specs.Calls as c;

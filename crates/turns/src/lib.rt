@@ -1,4 +1,6 @@
 // What a call and an answer on the bytes of a session share: the room for what it says, and a session that was never opened.
+#![tactic(auto)]
+
 ghost use Rattle.std.specs.Prelude.{◌≡◌};
 ghost use Rattle.abi.specs.Turns as c;
 ghost use Rattle.abi.specs.Kept as k;

@@ -1,4 +1,6 @@
 // The UAR BAR is found: the six BAR dwords are read, and the index that PCI I/O has for register 2 is chosen.
+#![tactic(auto)]
+
 ghost use Rattle.std.specs.Prelude.{◌≡◌, ◌≤◌};
 ghost use Rattle.bars.specs.Resource.{resource_at};
 ghost use Rattle.uar.specs.Uar.{dword_at};
@@ -9,7 +11,7 @@ use bars::{Asking, BarList, BarRange, Begun, Choice, Pick};
 use pci::{Answer, DwordReply, ListReply, Question};
 
 // The index that was picked; 4; or 27, a resource list that is damaged or cut.
-#[derive(Drop)]
+#[derive(Clone, Copy)]
 pub enum Found {
     Bar(Pick),
     Refused,
@@ -17,14 +19,14 @@ pub enum Found {
 }
 
 // The open question: a BAR dword, and how many are left after it; or an index that the choice asks about.
-#[derive(Drop)]
+#[derive(Clone, Copy)]
 pub enum BarPhase {
     Reading(u8),
     Choosing(Choice),
 }
 
 // A search under way, and the dwords that were read.
-#[derive(Drop)]
+#[derive(Clone, Copy)]
 pub struct FindBar {
     pub phase: BarPhase,
     pub dwords: [u32; 6],
@@ -40,20 +42,20 @@ impl FindBar {
 }
 
 // Where a step leads: it goes on, or has ended.
-#[derive(Drop)]
+#[derive(Clone, Copy)]
 pub enum BarEnding {
     Going,
     Ended(Found),
 }
 
-#[derive(Drop)]
+#[derive(Clone, Copy)]
 pub struct BarStep {
     pub find: FindBar,
     pub ending: BarEnding,
 }
 
 // What an answer does to a search: nothing; a dword was read, with so many left; the choice goes on; the end.
-#[derive(Drop)]
+#[derive(Clone, Copy)]
 pub enum BarMove {
     Stay,
     Save(u8, u32),

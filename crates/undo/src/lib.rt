@@ -2,6 +2,8 @@
 // `pop_undo` are thin over the slice; what they do is decided by value. A pop reads: the slice is
 // the caller's to write, and a record is off the list once he counts it no more. So a call says how
 // many are left.
+#![tactic(auto)]
+
 ghost use Rattle.std.specs.Prelude.{◌≡◌, ◌-◌, min, ◌||◌, length, get_or, take, drop};
 ghost use Rattle.fields.specs.Outcome.{number_of};
 ghost use Rattle.hcr.specs.Words.{is_reserved};
@@ -12,7 +14,7 @@ use session::Top;
 
 // A command that takes back what a client did.
 #[repr(C)]
-#[derive(Drop)]
+#[derive(Clone, Copy)]
 pub struct Undo {
     pub op: u16,
     pub op_mod: u8,
@@ -25,7 +27,7 @@ pub const MOST: usize = 256;
 
 // What a push gives: the new count; or 21 where the count is above 256, or the slice has no place
 // for the record; 22 for a reserved opcode; 19 where the list is full.
-#[derive(Drop)]
+#[derive(Clone, Copy)]
 pub enum Pushed {
     At(usize),
     Short,
@@ -49,7 +51,7 @@ impl Pushed {
 
 // What a pop gives: the newest record, and how many are left below it; nothing of an empty list; or
 // 21 where the count is above the slice or above 256.
-#[derive(Drop)]
+#[derive(Clone, Copy)]
 pub enum Popped {
     Newest(Undo, usize),
     Empty,

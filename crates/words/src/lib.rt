@@ -1,4 +1,6 @@
 // Words of eight bytes, the byte of the least weight first, in a slice of bytes: how a session is kept between two calls.
+#![tactic(auto)]
+
 ghost use Rattle.std.specs.Prelude.{false, ◌≡◌, ◌+◌, ◌*◌, ◌%◌, ◌<◌, ◌≤◌, length, eqb};
 ghost use Rattle.fields.specs.Fields.{number_at};
 ghost use Rattle.fields.specs.declared.Order.TheVariants.{Little};

@@ -1,4 +1,6 @@
 // What stands beside the task: a reset, and a search for the UAR BAR, as words.
+#![tactic(auto)]
+
 ghost use Rattle.std.specs.Prelude.{◌≡◌};
 ghost use Rattle.words_beside.specs.Coding.{reset_phase_words, reset_phase_of, control_words, control_of, reset_words, reset_of, range_words, range_of};
 ghost use Rattle.words_beside.specs.Coding.{candidate_words, candidate_of, asking_words, asking_of, choice_words, choice_of, bar_phase_words, bar_phase_of};

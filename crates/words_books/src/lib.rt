@@ -1,4 +1,6 @@
 // What of the books is no slot, and a slot, as words.
+#![tactic(auto)]
+
 ghost use Rattle.std.specs.Prelude.{◌≡◌};
 ghost use Rattle.words_books.specs.Coding.{refusal_words, refusal_of, failure_words, failure_of, closing_words, closing_of, slot_words, slot_of};
 ghost use Rattle.words_books.specs.Coding.{wire_words, wire_of, ledger_row, ledger_words, ledger_of};
@@ -7,7 +9,7 @@ use pci::Refusal;
 use session::{Closing, Failure, Slot, Wire};
 
 // What of the session is no slot and neither the task nor the stage, nor what the card has said.
-#[derive(Drop)]
+#[derive(Clone, Copy)]
 pub struct Ledger {
     pub ranges: usize,
     pub lends: usize,

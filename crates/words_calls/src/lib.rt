@@ -1,11 +1,13 @@
 // What crosses C linkage at each step, as numbers: a question as four words, with the count of undo records behind it; an answer from its kind and two values.
+#![tactic(auto)]
+
 ghost use Rattle.std.specs.Prelude.{◌≡◌};
 ghost use Rattle.words_calls.specs.Calls.{question_words, turn_in, heard_as, word_heard, dword_heard, heard_of};
 
 use pci::{Answer, Question};
 
 // An answer as it was told; `Unknown` where its kind has no such number, or its value is too wide for its kind.
-#[derive(Drop)]
+#[derive(Clone, Copy)]
 pub enum Heard {
     Told(Answer),
     Unknown,

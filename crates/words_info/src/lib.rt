@@ -1,4 +1,6 @@
 // What the card and the host have said, as words: the capabilities, a port, the rest.
+#![tactic(auto)]
+
 ghost use Rattle.std.specs.Prelude.{◌≡◌};
 ghost use Rattle.words_info.specs.Coding.{size_words, size_of, how_words, how_of, pick_words, pick_of, func_words, func_of};
 ghost use Rattle.words_info.specs.Coding.{told_words, told_of, entry_of, cap_words, cap_of, port_words, port_of};
@@ -7,7 +9,7 @@ use bars::{How, Pick, Size};
 use reply::{DevCap, FuncInfo, PortInfo};
 
 // What the card and the host have said, beside the capabilities and the ports.
-#[derive(Drop)]
+#[derive(Clone, Copy)]
 pub struct Told {
     pub uar: Pick,
     pub func: FuncInfo,

@@ -1,1 +1,2 @@
 // No code: the theorems about the words of a session.
+#![tactic(auto)]

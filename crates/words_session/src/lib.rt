@@ -1,4 +1,6 @@
 // A session as words of eight bytes, which the caller keeps between two calls: its head by value, and what stands behind the head in place.
+#![tactic(auto)]
+
 ghost use Rattle.std.specs.Prelude.{false, ◌≡◌, ◌+◌, ◌*◌, ◌<◌, ◌≤◌, ltb, length, replicate};
 ghost use Rattle.fields.specs.Outcome.{pick};
 ghost use Rattle.session.specs.Session.{fresh, no_slot};
@@ -28,7 +30,7 @@ use words_info::Told;
 use work::Task;
 
 // Whether bytes are a session: there are too few of them, or they are none.
-#[derive(Drop)]
+#[derive(Clone, Copy)]
 pub enum Kept {
     Good,
     Short,

@@ -1,4 +1,6 @@
 // How far a session has come, as words: its number in the order of the enum, then what it carries; words that it does not need are 0.
+#![tactic(auto)]
+
 ghost use Rattle.std.specs.Prelude.{◌≡◌};
 ghost use Rattle.words_stage.specs.Coding.{virt_words, virt_of, cutter_words, cutter_of, area_words, area_of, prepare_words, prepare_of};
 ghost use Rattle.words_stage.specs.Coding.{boot_words, boot_of, close_words, close_of, form_words, form_of, client_words, client_of, gave_words, gave_of};

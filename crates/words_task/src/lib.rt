@@ -1,4 +1,6 @@
 // The task under way as words: its number, then what it carries; words that it does not need are 0.
+#![tactic(auto)]
+
 ghost use Rattle.std.specs.Prelude.{◌≡◌};
 ghost use Rattle.words_task.specs.Coding.{fault_words, fault_of, catas_words, catas_of, phase_words, phase_of, cmd_words, cmd_of};
 ghost use Rattle.words_task.specs.Coding.{attr_words, attr_of, claim_words, claim_of, make_phase_words, make_phase_of, making_words, making_of};

@@ -1,4 +1,6 @@
 // What a session has under way: one of its tasks, behind one question and one step.
+#![tactic(auto)]
+
 ghost use Rattle.std.specs.Prelude.{◌≡◌};
 ghost use Rattle.work.specs.Work.{resting, on_task, end_task, look_step, work_asks, work_step_of};
 ghost use Rattle.work.specs.Work.{attr_work, claim_work, make_work, free_work, cmd_work, part_work, reset_work, bar_work};
@@ -12,7 +14,7 @@ use tasks::{Attr, AttrStep, Attributes, Claim, ClaimStep, Claimed, Parting, Part
 use uar::{BarEnding, FindBar, Found};
 
 // The task that is under way. A reset and a search for the UAR BAR hold arrays and stand beside it. `Look` reads the status dword before the first command.
-#[derive(Drop)]
+#[derive(Clone, Copy)]
 pub enum Task {
     Rest,
     Attr(Attr),
@@ -26,7 +28,7 @@ pub enum Task {
     Part(Parting),
 }
 
-#[derive(Drop)]
+#[derive(Clone, Copy)]
 pub struct Work {
     pub task: Task,
     pub reset: Reset,
@@ -34,7 +36,7 @@ pub struct Work {
 }
 
 // How a task has ended.
-#[derive(Drop)]
+#[derive(Clone, Copy)]
 pub enum End {
     Attr(Attributes),
     Claim(Claimed),
@@ -49,13 +51,13 @@ pub enum End {
 }
 
 // Where a step leads.
-#[derive(Drop)]
+#[derive(Clone, Copy)]
 pub enum Ending {
     Going,
     Ended(End),
 }
 
-#[derive(Drop)]
+#[derive(Clone, Copy)]
 pub struct WorkStep {
     pub work: Work,
     pub ending: Ending,

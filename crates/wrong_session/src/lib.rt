@@ -1,1 +1,2 @@
 // No code: the table of `wrong` for public functions on a session's parts.
+#![tactic(auto)]
