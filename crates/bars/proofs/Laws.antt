@@ -1,5 +1,5 @@
 -- Laws of the walk over the BAR dwords.
-use Rattle.std.proofs.Common.{◌≡◌, ℕ, suc, ◌+◌, ◌<◌, ◌≤◌, Bool, true, false, List, [], ◌∷◌, length, get_or, take, drop, sym, refl, ap, ◌∙◌, arith, drop_of_length-le, length-take, length_take_le, drop-drop}
+use Rattle.std.proofs.Common.{◌≡◌, ℕ, suc, ◌+◌, ◌<◌, ◌≤◌, Bool, true, false, List, [], ◌∷◌, length, get_or, take, drop, sym, refl, ap, ◌∙◌, arith, drop_of_length-le, length-take, length-take-le, drop-drop}
 use lib.Seq.{slice, slice-cons}
 use Rattle.fields.specs.Outcome.{pick}
 use Rattle.bars.specs.Bars.{is64, bars, width_of, count_of}
@@ -34,7 +34,7 @@ bars_walk regs r reg h l =
 -- at or past the end nothing is left to count
 pub bars_end : (regs : List ℕ) (r reg : ℕ) → reg ≤ r → reg ≤ length regs → bars false (slice r reg regs) ≡ 0
 unfolding bars
-bars_end regs r reg h l = ap (bars false) (drop_of_length-le (take reg regs) {i = r} (rw (length_take_le reg regs l) h))
+bars_end regs r reg h l = ap (bars false) (drop_of_length-le (take reg regs) {i = r} (rw (length-take-le reg regs l) h))
 
 pub width_le : (dword : ℕ) → (1 ≤ width_of dword) × (width_of dword ≤ 2)
 width_le dword = at (is64 dword)

@@ -1,3 +1,1 @@
-pub mod Read
-pub mod Method
-pub mod Through
+-- Lemmas: none; the check finds these proofs alone.

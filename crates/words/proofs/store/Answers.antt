@@ -1,0 +1,15 @@
+use Prim.Native.Nat.{◌+◌, ◌*◌}
+use mathlib.Core.Path.{sym, ◌∙◌}
+use borrow.Author.Rules.{rules}
+use borrow.Author.Tests.{leb-true}
+use lib.ListN.{length}
+use Rattle.words.proofs.store.Goals as goal
+
+pub store_all-requires : goal.store_all-requires
+store_all-requires c = let p = c.args in leb-true ((p.k + length p.w.now) * 8) (length p.s.now) (sym c.room.ensures ∙ c.if-room.true)
+
+pub returns-then-room : goal.returns-then-room
+returns-then-room c = rw (sym c.room.ensures ∙ c.if-room.true) c.store_all.ensures
+
+pub returns-else-room : goal.returns-else-room
+returns-else-room c = rw (sym c.room.ensures ∙ c.if-room.false)
