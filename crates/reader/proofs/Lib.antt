@@ -1,1 +1,1 @@
--- Lemmas: none; the check finds these proofs alone.
+pub mod Read
