@@ -2,12 +2,12 @@
 use Prim.Native.Nat.{ℕ, zero, suc, ◌+◌, ◌-◌, ◌*◌, ◌≤◌, ◌<◌}
 use mathlib.Core.Bool.{Bool, true, false}
 use mathlib.Core.List.{List}
-use mathlib.Core.Path.{◌≡◌, refl, ap, sym, subst}
+use mathlib.Core.Path.{◌≡◌, refl, ap, sym, subst, ◌∙◌}
 use native.Mathlib.Nat.{min-eq_right}
 use native.Mathlib.Numerals.{add-one}
 use native.Mathlib.Omega.{arith}
 use borrow.Author.Tests.{ltb-true, ltb-false, lt-ltb, le-ltb, le-leb, lt-leb}
-use lib.Dec.{eqb, ltb}
+use lib.Dec.{eqb, ltb, leb}
 use lib.ListN.{drop}
 use Rattle.fields.specs.Outcome.{pick}
 use Rattle.hcr.specs.Words.{register, swap_of, pending_in, status_in, stall_of, waited_of}
@@ -107,7 +107,7 @@ module _ (inbox : List ℕ) where
     poll-more h = (
       refl,
       λ a bytes. dword_case (dword_of a) polling _ _ _ (λ v.
-          pick_after (pending_in v g) _ _ _ _ (rw (lt-leb 60000000 (waited_of n) (no_sooner n h)) (wait-after h)) fenced-after),
+          let P : Bool → CmdStep = λ b. pick b (timeout_of polling k) (go_on polling p.Wait) in pick_after (pending_in v g) (P (leb 60000000 (waited_of n))) (go_on polling p.Fenced) (ask (stall (stall_of n)) (λ u. poll k inbox g (suc n) (STALLS - (n + 1)))) (verdict k inbox g (waited_of n)) (ap (λ (b : Bool). after (P b)) (lt-leb 60000000 (waited_of n) (no_sooner n h)) ∙ wait-after h) fenced-after),
     )
 
     poll-last : STALLS ≤ n → Follows cmd_asks stepped (cmd_script inbox) polling (poll k inbox g n 0)
@@ -115,7 +115,7 @@ module _ (inbox : List ℕ) where
     poll-last h = (
       refl,
       λ a bytes. dword_case (dword_of a) polling _ _ _ (λ v.
-          pick_after (pending_in v g) _ _ _ _ (rw (le-leb 60000000 (waited_of n) (enough n h)) (timeout_after polling k)) fenced-after),
+          let P : Bool → CmdStep = λ b. pick b (timeout_of polling k) (go_on polling p.Wait) in pick_after (pending_in v g) (P (leb 60000000 (waited_of n))) (go_on polling p.Fenced) (timed_out k (ending g (r.Timeout (waited_of n)))) (verdict k inbox g (waited_of n)) (ap (λ (b : Bool). after (P b)) (le-leb 60000000 (waited_of n) (enough n h)) ∙ timeout_after polling k) fenced-after),
     )
 
     poll-by : (b : Bool) → ltb n STALLS ≡ b → Follows cmd_asks stepped (cmd_script inbox) polling (poll k inbox g n (STALLS - n))

@@ -6,7 +6,7 @@ use mathlib.Core.Path.{◌≡◌, refl, ap, sym, subst, ◌∙◌}
 use mathlib.Core.List.{List, [], ◌∷◌}
 use native.Mathlib.Nat.{mul-le-mul, mul_assoc, max-le, le-max_right, max-eq_left, div-lt_iff_lt-mul, add-mul}
 use native.Mathlib.Omega.{arith}
-use borrow.Author.Tests.{eqb-true, eqb-false, not_true}
+use borrow.Author.Tests.{eqb-true, eqb-false, not-true}
 use lib.Dec.{T, ltb, eqb, lit≤, lit<, ltb→lt}
 use lib.ListN.{length, get_or}
 use Rattle.layout.specs.declared.Table.{Table}
@@ -212,7 +212,7 @@ module _ (counts entries : List ℕ) (g : GoodLayout counts entries (lay_out cou
   both false b t = absurd t
 
   T_not : (m n : ℕ) → T (not (eqb m n)) → m ≡ n → ⊥
-  T_not m n t = eqb-false m n (not_true (eqb m n) (T_true (not (eqb m n)) t))
+  T_not m n t = eqb-false m n (not-true (eqb m n) (T_true (not (eqb m n)) t))
     where
       T_true : (b : Bool) → T b → b ≡ true
       T_true true t = refl

@@ -11,7 +11,7 @@ use borrow.Author.Tests.{ltb-true, ltb-false, eq-eqb, ne_eqb, eqb-true, eqb-fals
 use lib.Arith.{lt_of_le-ne}
 use lib.Dec.{ltb, eqb}
 use lib.ListN.{length, get_or, take, drop, take-append-drop, length-drop}
-use lib.Seq.{get_or-drop, get_or-take, length_take_le}
+use lib.Seq.{get_or-drop, get_or-take, length-take-le}
 use Rattle.fields.specs.Outcome.{pick}
 use Rattle.layout.specs.declared.Table.{Table}
 use Rattle.layout.specs.Layout.{no_table, table_of, tables_from, spot_of, insert_at, sort_into, based, place_from, total_of, table_in}
@@ -108,7 +108,7 @@ ordered_insert x done o lower =
     all_get_d (Before x) (drop j done) (λ k h. inl (rw (get_or-drop j done k no_table) (spot_after done x.bytes n (j + k) (omega arith) (omega (arith, length-drop j done))))) in
     let front : All (λ y. x.bytes ≤ y.bytes) (take j done) =
     all_get_d (λ y. x.bytes ≤ y.bytes) (take j done)
-    (λ k h. let l : k < j = omega (arith, length_take_le j done le) in
+    (λ k h. let l : k < j = omega (arith, length-take-le j done le) in
     rw (get_or-take j done k no_table l)
     (le_trans (spot_before done x.bytes n (omega arith)) (ordered_bytes done o k (j - 1) (omega arith) (omega arith)))) in
     let before : All (λ y. Before y x) (take j done) =

@@ -3,7 +3,7 @@ use Prim.Native.Nat.{ℕ, ◌≤◌, ◌<◌}
 use mathlib.Core.Bool.{Bool, true, false, not}
 use mathlib.Core.Path.{◌≡◌, refl, ap, sym, ◌∙◌}
 use mathlib.Core.List.{List, [], ◌∷◌}
-use borrow.Author.Tests.{lt-ltb, le-ltb, not_true, not-false}
+use borrow.Author.Tests.{lt-ltb, le-ltb, not-true, not-false}
 use lib.Dec.{ltb}
 use lib.ListN.{length}
 use Rattle.fields.specs.Fields.{be}
@@ -87,7 +87,7 @@ module _ (s : List ℕ) (bar : Size) (r : Capability) where
       pub ports-answers : not b ≡ true → r ≡ refused_caps (Ports p) → Answers r (capability_of s bar)
       ports-answers h e =
           refusal (Ports p) r (capability_of s bar) e
-          (is_verdict s bar ∙ v_port _ _ _ _ _ _ _ (le-ltb _ _ long) (le-ltb _ _ (rw em at good-page)) (two ∙ not_true b h) ∙ ap (λ (n : ℕ). refused 13 (n ∷ [])) (sym ep))
+          (is_verdict s bar ∙ v_port _ _ _ _ _ _ _ (le-ltb _ _ long) (le-ltb _ _ (rw em at good-page)) (two ∙ not-true b h) ∙ ap (λ (n : ℕ). refused 13 (n ∷ [])) (sym ep))
 
       module _ (good-ports : not b ≡ false) (f : ℕ) (ef : f ≡ uar_field s) where
         pub uar-answers : 43 < f → r ≡ refused_caps (Uar f) → Answers r (capability_of s bar)
@@ -126,7 +126,7 @@ module _ (s : List ℕ) (bar : ℕ) where
     pub fw-revision-answers : not b ≡ true → AnswersFw (record { check = fw.Revision i.rev; info = i })
     fw-revision-answers h =
         rw (le-ltb (length s) 0x3d long)
-        (rw (rev-is ∙ not_true b h) (ap (λ (x : FwInfo). refused 11 (x.rev ∷ [])) ei), ei)
+        (rw (rev-is ∙ not-true b h) (ap (λ (x : FwInfo). refused 11 (x.rev ∷ [])) ei), ei)
 
     pub fw-good-answers : not b ≡ false → AnswersFw (record { check = fw.Good; info = i })
     fw-good-answers h = rw (le-ltb (length s) 0x3d long) (rw (rev-is ∙ not-false b h) (ap value ei), ei)

@@ -6,7 +6,7 @@ use mathlib.Core.List.{List, [], ◌∷◌}
 use native.Mathlib.Nat.{le_of_suc-le-suc}
 use native.Mathlib.Numerals.{add-one}
 use native.Mathlib.Omega.{arith}
-use borrow.Author.Tests.{eqb-false, not_true}
+use borrow.Author.Tests.{eqb-false, not-true}
 use lib.Dec.{T, leb, ltb, eqb, leb→le, ltb→lt}
 use lib.ListN.{length, get_or, drop, set, length-set}
 use lib.Seq.{drop-cons, get_or-set_same, get_or-set_other}
@@ -55,7 +55,7 @@ kept s [] out t w = refl
 kept s (p ∷ ps) out t w =
     let a = both (not (eqb t p.table)) (without t ps) w in
     kept s ps (set out p.table (be s p.offset 2)) t a.1
-    ∙ get_or-set_other out p.table t (be s p.offset 2) 0 (eqb-false t p.table (not_true (eqb t p.table) (T_true (not (eqb t p.table)) a.0)))
+    ∙ get_or-set_other out p.table t (be s p.offset 2) 0 (eqb-false t p.table (not-true (eqb t p.table) (T_true (not (eqb t p.table)) a.0)))
 
 -- each table that a place names gets the field at its offset
 named : (s : List ℕ) (ps : List Place) (out : List ℕ) → T (right ps) → 11 ≤ length out → (k : ℕ) → k < length ps

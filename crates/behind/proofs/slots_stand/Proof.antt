@@ -1,7 +1,7 @@
 use Prim.Native.Nat.{◌+◌, ◌-◌, ◌*◌, ◌≤◌}
 use mathlib.Core.Path.{◌≡◌, refl, ap, sym, ◌∙◌}
 use native.Mathlib.Omega.{arith}
-use borrow.Author.Tests.{lt-ltb, le-ltb, not_true, not-false}
+use borrow.Author.Tests.{lt-ltb, le-ltb, not-true, not-false}
 use Rattle.words.specs.Places.{SLOT, SLOTS, slots_at}
 use Rattle.behind.specs.Behind.{flags_stand}
 use Rattle.behind.proofs.Laws.{flags_turn, flags_end}
@@ -28,7 +28,7 @@ returns-2 : tie.Need-returns-2 invariant-loop decreases-loop
 returns-2 c =
     let p = c.before.before.before.before.before.before.args in
     let l = c.before.before.before.loop in
-    let no = sym c.before.flag-stands.ensures ∙ not_true c.before.flag-stands.result c.if2.true in
+    let no = sym c.before.flag-stands.ensures ∙ not-true c.before.flag-stands.result c.if2.true in
     sym (rw (le-ltb _ _ c.before.before.before.before.if1.false)
     (sym l.invariant.1 ∙ flags_turn p.m.now slots_at SLOTS l.i c.before.before.loop-test.true ∙ rw no refl))
 

@@ -1,6 +1,6 @@
 use Rattle.fw.proofs.Answers.{too_few, no_head, a_head}
 use mathlib.Core.Path.{refl, ap, sym, subst, ◌∙◌}
-use borrow.Author.Tests.{not_true, not-false, lt-ltb, le-ltb}
+use borrow.Author.Tests.{not-true, not-false, lt-ltb, le-ltb}
 use borrow.Author.Rules.{rules}
 use Rattle.fw.proofs.answer.Statement.{statement}
 use Rattle.fw.proofs.answer.Tie as tie
@@ -22,7 +22,7 @@ same_length c = search rules
 returns-2 : tie.Need-returns-2
 returns-2 c =
     let p = c.before.before.before.before.before.before.before.before.before.before.before.args in
-    no_head p.a p.resource.now p.top p.state.now p.inbox.now p.outbox.now p.out.now c.before.before.before.head_at.result c.before.head-stands.result c.before.before.before.before.before.if1.false c.before.before.before.head_at.ensures c.before.head-stands.ensures (not_true c.before.head-stands.result c.if2.true)
+    no_head p.a p.resource.now p.top p.state.now p.inbox.now p.outbox.now p.out.now c.before.before.before.head_at.result c.before.head-stands.result c.before.before.before.before.before.if1.false c.before.before.before.head_at.ensures c.before.head-stands.ensures (not-true c.before.head-stands.result c.if2.true)
 
 answer-of-requires : tie.Need-answer-of-requires
 answer-of-requires c κs = search rules

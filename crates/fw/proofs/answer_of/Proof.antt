@@ -1,5 +1,5 @@
 use mathlib.Core.Path.{refl, ap, sym, subst, ◌∙◌}
-use borrow.Author.Tests.{not_true, not-false, lt-ltb, le-ltb}
+use borrow.Author.Tests.{not-true, not-false, lt-ltb, le-ltb}
 use Rattle.session.specs.Core.{full}
 use Rattle.behind.specs.Behind.{behind_in}
 use Rattle.fw.proofs.Answers.{late, no_room, unlent, taken, taken_keeps}
@@ -16,7 +16,7 @@ same_length c = search rules
 returns : tie.Need-returns
 returns c =
     let p = c.before.before.before.before.before.before.before.before.args in
-    late (full p.s (behind_in p.state.now)) p.a p.resource.now p.top p.state.now p.inbox.now p.outbox.now p.out.now (sym c.before.answerable.ensures ∙ not_true c.before.answerable.result c.if1.true)
+    late (full p.s (behind_in p.state.now)) p.a p.resource.now p.top p.state.now p.inbox.now p.outbox.now p.out.now (sym c.before.answerable.ensures ∙ not-true c.before.answerable.result c.if1.true)
 
 same-length-2 : tie.Need-same-length-2
 same-length-2 c = search rules
@@ -41,7 +41,7 @@ same-length-5 c = search rules
 returns-3 : tie.Need-returns-3
 returns-3 c =
     let p = c.before.before.before.before.before.before.before.before.before.before.before.before.before.args in
-    unlent (full p.s (behind_in p.state.now)) p.a p.resource.now p.top p.state.now p.inbox.now p.outbox.now p.out.now (sym c.before.before.before.before.before.before.answerable.ensures ∙ not-false c.before.before.before.before.before.before.answerable.result c.before.before.before.before.before.if1.false) (le-ltb _ _ c.before.before.before.before.if2.false) (sym c.before.is-lent.ensures ∙ not_true c.before.is-lent.result c.if3.true)
+    unlent (full p.s (behind_in p.state.now)) p.a p.resource.now p.top p.state.now p.inbox.now p.outbox.now p.out.now (sym c.before.before.before.before.before.before.answerable.ensures ∙ not-false c.before.before.before.before.before.before.answerable.result c.before.before.before.before.before.if1.false) (le-ltb _ _ c.before.before.before.before.if2.false) (sym c.before.is-lent.ensures ∙ not-true c.before.is-lent.result c.if3.true)
 
 step-requires : tie.Need-step-requires
 step-requires c κs = search rules

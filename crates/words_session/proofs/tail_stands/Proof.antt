@@ -1,5 +1,5 @@
 use mathlib.Core.Path.{◌≡◌, refl, ap, sym, ◌∙◌}
-use borrow.Author.Tests.{not_true, not-false}
+use borrow.Author.Tests.{not-true, not-false}
 use Rattle.words.specs.Words.{same_words}
 use Rattle.session.specs.Core.{Behind}
 use Rattle.words.specs.Places.{reset_at, find_at}
@@ -14,12 +14,12 @@ use Rattle.words_session.proofs.tail_stands.Tie as tie
 
 returns : tie.Need-returns
 returns c =
-    and_no _ _ (sym (c.before.reset-stands.ensures ∙ ap (λ (v : Reset). same_words c.before.before.before.before.args.s.now reset_at (reset_words v)) (c.before.before.reset-at.ensures ∙ ap (λ (b : Behind). b.reset) (long c.before.before.before.before.args.s.now c.before.before.before.before.requires))) ∙ not_true c.before.reset-stands.result c.if1.true)
+    and_no _ _ (sym (c.before.reset-stands.ensures ∙ ap (λ (v : Reset). same_words c.before.before.before.before.args.s.now reset_at (reset_words v)) (c.before.before.reset-at.ensures ∙ ap (λ (b : Behind). b.reset) (long c.before.before.before.before.args.s.now c.before.before.before.before.requires))) ∙ not-true c.before.reset-stands.result c.if1.true)
 
 returns-2 : tie.Need-returns-2
 returns-2 c =
     and_yes _ _ (sym (c.before.before.before.before.reset-stands.ensures ∙ ap (λ (v : Reset). same_words c.before.before.before.before.before.before.before.args.s.now reset_at (reset_words v)) (c.before.before.before.before.before.reset-at.ensures ∙ ap (λ (b : Behind). b.reset) (long c.before.before.before.before.before.before.before.args.s.now c.before.before.before.before.before.before.before.requires))) ∙ not-false c.before.before.before.before.reset-stands.result c.before.before.before.if1.false)
-    (and_no _ _ (sym (c.before.find-stands.ensures ∙ ap (λ (v : FindBar). same_words c.before.before.before.before.before.before.before.args.s.now find_at (find_words v)) (c.before.before.find_at.ensures ∙ ap (λ (b : Behind). b.find) (long c.before.before.before.before.before.before.before.args.s.now c.before.before.before.before.before.before.before.requires))) ∙ not_true c.before.find-stands.result c.if2.true))
+    (and_no _ _ (sym (c.before.find-stands.ensures ∙ ap (λ (v : FindBar). same_words c.before.before.before.before.before.before.before.args.s.now find_at (find_words v)) (c.before.before.find_at.ensures ∙ ap (λ (b : Behind). b.find) (long c.before.before.before.before.before.before.before.args.s.now c.before.before.before.before.before.before.before.requires))) ∙ not-true c.before.find-stands.result c.if2.true))
 
 returns-3 : tie.Need-returns-3
 returns-3 c =
