@@ -33,7 +33,7 @@ use Rattle.command.specs.declared.Phase.TheVariants as p
 use Rattle.command.specs.declared.Cmd.{Cmd}
 use Rattle.command.specs.declared.CmdStep.{CmdStep}
 use Rattle.command.specs.Script.{STALLS, ending, on_read, on_write, timed_out, low, immediate, judged, verdict, poll, words, write_all, start, fenced, command}
-use Rattle.command.specs.Machine.{cmd_asks, cmd_step_of, cmd_script, next, on_dword, on_done, on_told, on_either, timeout_of, written_of, word_at, go_on}
+use Rattle.command.specs.Machine.{cmd_asks, cmd_step_of, cmd_script, next, on_dword, on_done, on_told, on_either, timeout_of, written_of, word_at, go_on, end_of, first_of, status_of, done_with}
 use Rattle.command.proofs.Laws.{enough, left_more, left_none}
 
 module _ (inbox : List ℕ) where
@@ -126,7 +126,7 @@ module _ (inbox : List ℕ) where
   at_phase : (f : Phase) (x : Post) (g : Bool) (n : ℕ) (k : Catas)
       → Follows cmd_asks stepped (cmd_script inbox) (record { phase = f; post = x; toggle = g; stalls = n; catas = k }) (cmd_script inbox (record { phase = f; post = x; toggle = g; stalls = n; catas = k }))
   unfolding cmd_script cmd_step_of cmd_asks command write_all fenced start verdict judged immediate low
-  at_phase p.First x g n k = (refl, λ a bytes. dword_case (dword_of a) _ _ _ _ (λ v. pick_after (pending_in v g) _ _ _ _ refl refl))
+  at_phase p.First x g n k = let c : Cmd = (record { phase = p.First; post = x; toggle = g; stalls = n; catas = k }) in (refl, λ a bytes. dword_case (dword_of a) c 0 (first_of c) _ (λ v. pick_after (pending_in v g) (end_of c r.Busy) (go_on c (p.Writing 0)) _ _ refl refl))
   at_phase (p.Writing zero) x g n k = (refl, λ a bytes. done_case (done_of a) _ _ _ refl)
   at_phase (p.Writing (suc zero)) x g n k = (refl, λ a bytes. done_case (done_of a) _ _ _ refl)
   at_phase (p.Writing (suc (suc zero))) x g n k = (refl, λ a bytes. done_case (done_of a) _ _ _ refl)
@@ -138,9 +138,9 @@ module _ (inbox : List ℕ) where
   at_phase p.Poll x g n k = poll-by x g n k (ltb n STALLS) refl
   at_phase p.Wait x g n k = (refl, λ a bytes. told_case (told_of a) _ _ _ refl)
   at_phase p.Fenced x g n k = (refl, λ a bytes. told_case (told_of a) _ _ _ refl)
-  at_phase p.Status x g n k = (refl, λ a bytes. dword_case (dword_of a) _ _ _ _ (λ v. pick_after (eqb (status_in v) 0) _ _ _ _ refl refl))
-  at_phase p.High x g n k = (refl, λ a bytes. dword_case (dword_of a) _ _ _ _ (λ v. refl))
-  at_phase (p.Low h) x g n k = (refl, λ a bytes. dword_case (dword_of a) _ _ _ _ (λ v. refl))
+  at_phase p.Status x g n k = let c : Cmd = (record { phase = p.Status; post = x; toggle = g; stalls = n; catas = k }) in (refl, λ a bytes. dword_case (dword_of a) c (waited_of n) (λ v. status_of c (status_in v)) _ (λ v. pick_after (eqb (status_in v) 0) (go_on c p.High) (end_of c (r.Status (status_in v) (waited_of n))) _ _ refl refl))
+  at_phase p.High x g n k = let c : Cmd = (record { phase = p.High; post = x; toggle = g; stalls = n; catas = k }) in (refl, λ a bytes. dword_case (dword_of a) c (waited_of n) (λ v. go_on c (p.Low v)) _ (λ v. refl))
+  at_phase (p.Low h) x g n k = let c : Cmd = (record { phase = p.Low h; post = x; toggle = g; stalls = n; catas = k }) in (refl, λ a bytes. dword_case (dword_of a) c (waited_of n) (done_with c h) _ (λ v. refl))
   at_phase p.Catas x g n k = (refl, λ a bytes. either_case (dword_of a) _ _ _ refl)
 
   -- The command machine follows its script from every state.
