@@ -1,0 +1,60 @@
+use borrow.Author.Rules.{rules}
+use mathlib.Core.Path.{ap}
+use borrow.Author.Tests.{eq-eqb, ne_eqb}
+use Rattle.work.specs.declared.Task.TheVariants as tv
+use Rattle.words_task.proofs.task_from.Goals as goal
+
+pub returns-in-8 : goal.returns-in-8
+returns-in-8 c = rw (eq-eqb _ _ c.in-8.is) (ap tv.Cmd c.cmd_from.ensures)
+
+pub returns-in-1 : goal.returns-in-1
+returns-in-1 c = simp (
+  c.in-1.is,
+  c.attr_from.ensures,
+)
+
+pub returns-in-2 : goal.returns-in-2
+returns-in-2 c = simp (
+  c.in-2.is,
+  c.claim_from.ensures,
+)
+
+pub returns-in-3 : goal.returns-in-3
+returns-in-3 c = simp c.in-3.is
+
+pub returns-in-4 : goal.returns-in-4
+returns-in-4 c = simp c.in-4.is
+
+pub returns-in-5 : goal.returns-in-5
+returns-in-5 c = simp (
+  c.in-5.is,
+  c.making_from.ensures,
+)
+
+pub returns-in-6 : goal.returns-in-6
+returns-in-6 c = simp (
+  c.in-6.is,
+  c.freeing_from.ensures,
+)
+
+pub returns-in-7 : goal.returns-in-7
+returns-in-7 c = simp c.in-7.is
+
+pub returns-in-9 : goal.returns-in-9
+returns-in-9 c = simp (
+  c.in-9.is,
+  c.parting_from.ensures,
+)
+
+pub returns-in_default : goal.returns-in_default
+returns-in_default c = simp (
+  ne_eqb _ _ c.in_default.in_default-own.rest.0.0.0.0.0.0.0.0.1,
+  ne_eqb _ _ c.in_default.in_default-own.rest.0.0.0.0.0.0.0.1,
+  ne_eqb _ _ c.in_default.in_default-own.rest.0.0.0.0.0.0.1,
+  ne_eqb _ _ c.in_default.in_default-own.rest.0.0.0.0.0.1,
+  ne_eqb _ _ c.in_default.in_default-own.rest.0.0.0.0.1,
+  ne_eqb _ _ c.in_default.in_default-own.rest.0.0.0.1,
+  ne_eqb _ _ c.in_default.in_default-own.rest.0.0.1,
+  ne_eqb _ _ c.in_default.in_default-own.rest.0.1,
+  ne_eqb _ _ c.in_default.in_default-own.rest.1,
+)
