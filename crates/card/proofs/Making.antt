@@ -106,6 +106,7 @@ module _ (i : List ℕ) (base : ℕ → Option Hold) (bs : List Buffer) (I : Car
     where
       no : (c : Card) → I c → (d : ℕ) → On (s ∷ []) d → MayUse c d → ⊥
       no c y d (inl z) u = new d z (bound c y d u)
+      no c y d (inr x3) u = elim x3 [ ]
 
   spot_is : (h n : ℕ) (s : Spot) → s.bytes ≡ n * 4096 → spot_of (record { handle = h; dev = s.address; pages = n }) ≡ s
   spot_is h n s e = λ t. record { address = s.address; bytes = sym e t }

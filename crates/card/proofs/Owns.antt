@@ -86,6 +86,7 @@ In a (x ∷ xs) = (a ≡ x) ⊎ In a xs
 pub in_left : {A : Type 0} (a : A) (xs ys : List A) → In a xs → In a (xs ++ ys)
 in_left a (x ∷ xs) ys (inl e) = inl e
 in_left a (x ∷ xs) ys (inr e) = inr (in_left a xs ys e)
+in_left {A = A} a [] ys x' = elim x' [ ]
 
 pub in_right : {A : Type 0} (a : A) (xs ys : List A) → In a ys → In a (xs ++ ys)
 in_right a [] ys e = e
@@ -94,20 +95,24 @@ in_right a (x ∷ xs) ys e = inr (in_right a xs ys e)
 pub in_books : (b : Buffer) (bs : List Buffer) (d : ℕ) → In b bs → Meets (spot_of b) d → InBooks bs d
 in_books b (x ∷ xs) d (inl e) m = inl (subst (λ (c : Buffer). Meets (spot_of c) d) e m)
 in_books b (x ∷ xs) d (inr e) m = inr (in_books b xs d e m)
+in_books b [] d x'' m = elim x'' [ ]
 
 -- its addresses are in use
 pub owns_use : (bs : List Buffer) (k : Host) → Each (λ b. k.hand b.handle ≡ some (hold_of b)) bs → (d : ℕ) → InBooks bs d → InUse k d
 owns_use (b ∷ bs) k x d (inl m) = (b.handle, hold_of b, x.0, inl m)
 owns_use (b ∷ bs) k x d (inr m) = owns_use bs k x.1 d m
+owns_use [] k x d x3 = elim x3 [ ]
 
 -- and are the session's own
 pub owns_ours : (bs : List Buffer) (k : Host) → Each (λ b. k.hand b.handle ≡ some (hold_of b)) bs → Each (λ b. standing b.handle k.log ≡ some b.pages) bs → (d : ℕ) → InBooks bs d → Ours k d
 owns_ours (b ∷ bs) k x y d (inl m) = (b.handle, hold_of b, x.0, y.0, inl m)
 owns_ours (b ∷ bs) k x y d (inr m) = owns_ours bs k x.1 y.1 d m
+owns_ours [] k x y d x4 = elim x4 [ ]
 
 -- where nothing was dealt there is none
 pub owns_none : (bs : List Buffer) (k : Host) → Each (λ b. standing b.handle k.log ≡ some b.pages) bs → k.log ≡ [] → (d : ℕ) → InBooks bs d → ⊥
 owns_none (b ∷ bs) k x e d m = none-ne-some b.pages (ap (standing b.handle) (sym e) ∙ x.0)
+owns_none [] k x e d m = elim m [ ]
 
 -- a deal under one handle leaves the others
 pub out_other : (h x n : ℕ) (l : List Deal) → (h ≡ x → ⊥) → standing h (out x n ∷ l) ≡ standing h l

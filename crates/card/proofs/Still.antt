@@ -26,6 +26,9 @@ use Rattle.tasks.specs.Claim as k
 use Rattle.tasks.specs.Parting.{on_disown, releasing, restoring, quieting, commanding, on_command}
 use Rattle.uar.specs.Uar as u
 use Rattle.uar.specs.declared.Found.{Found}
+use Rattle.uar.specs.declared.Found.TheVariants as found
+use Rattle.bars.specs.declared.How.TheVariants as how
+use Rattle.bars.specs.Steps.{pick_of}
 use Rattle.work.specs.Work.{looking}
 use Rattle.card.specs.Card.{Card, Settles, Takes, take, store, Host, World, WorldStep, Allowed}
 use Rattle.card.specs.Safe.{Safe}
@@ -64,6 +67,12 @@ still_allowed (read b o) i w h = tt
 still_allowed (attributes o v) i w h = tt
 still_allowed (resource b) i w h = tt
 still_allowed (stall t) i w h = tt
+still_allowed (write bar offset _) i w h = elim h [ ]
+still_allowed (allocate pages) i w h = elim h [ ]
+still_allowed (mapped handle bytes) i w h = elim h [ ]
+still_allowed (unmap handle) i w h = elim h [ ]
+still_allowed (free handle pages) i w h = elim h [ ]
+still_allowed (fence inbox) i w h = elim h [ ]
 
 pub still_step : (q : Ask) (r : Reply q) (w v : World) → Still q → WorldStep w q r v → Settles w.card v.card × (v.host ≡ w.host)
 still_step (config_read16 o) r w v h st = st
@@ -75,6 +84,12 @@ still_step (read b o) failed w v h st = st
 still_step (attributes o x) r w v h st = st
 still_step (resource b) r w v h st = st
 still_step (stall t) r w v h st = st
+still_step (write bar offset _) r w v h st = elim h [ ]
+still_step (allocate pages) r w v h st = elim h [ ]
+still_step (mapped handle bytes) r w v h st = elim h [ ]
+still_step (unmap handle) r w v h st = elim h [ ]
+still_step (free handle pages) r w v h st = elim h [ ]
+still_step (fence inbox) r w v h st = elim h [ ]
 
 pub safe_still : {R : Type 0} (i : List ℕ) (t : Script R) (I : Card → Type 1) (l : Host) (w : World) → Stills t → Stable I → w.host ≡ l → I w.card
     → Safe i w t (λ v r. (v.host ≡ l) × I v.card)
@@ -116,7 +131,7 @@ told_still k h (good bytes) = list_still k h (resource_at bytes)
 told_still k h failed = h b.NoAnswer
 
 other_still : (base i : ℕ) (next : Script Found) → Stills next → Stills (u.other base i next)
-other_still base i next h = (tt, told_still _ (λ a. stills_pick (has_base base a) _ _ tt h))
+other_still base i next h = (tt, told_still _ (λ a. stills_pick (has_base base a) (ret (found.Bar (pick_of (u.candidate i a) how.Scan))) next tt h))
 
 scan_still : (base : ℕ) (p : Pick) (is : List ℕ) → Stills (u.scan base p is)
 unfolding u.scan

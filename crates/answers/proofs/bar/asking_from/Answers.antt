@@ -1,0 +1,12 @@
+use borrow.Author.Rules.{rules}
+use borrow.Author.Tests.{eq-eqb, ne_eqb}
+use Rattle.answers.proofs.bar.asking_from.Goals as goal
+
+pub returns-then-t-eq0 : goal.returns-then-t-eq0
+returns-then-t-eq0 c = rw (eq-eqb _ _ c.if-t-eq0.true)
+
+pub returns-then-t-eq1 : goal.returns-then-t-eq1
+returns-then-t-eq1 c = rw (ne_eqb _ _ c.if-t-eq0.false, eq-eqb _ _ c.if-t-eq1.true)
+
+pub returns : goal.returns
+returns c = rw (ne_eqb _ _ c.if-t-eq0.false, ne_eqb _ _ c.if-t-eq1.false)

@@ -1,0 +1,7 @@
+use Rattle.answers.proofs.replies.size_from.Goals as goal
+
+pub returns-then-known : goal.returns-then-known
+returns-then-known c = rw c.if-known.true
+
+pub returns : goal.returns
+returns c = rw c.if-known.false

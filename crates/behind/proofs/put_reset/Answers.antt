@@ -1,0 +1,12 @@
+use mathlib.Core.Path.{◌∙◌}
+use borrow.Author.Rules.{rules}
+use Rattle.words.specs.Places.{reset_at}
+use Rattle.words_beside.specs.Coding.{reset_words}
+use Rattle.behind.proofs.Laws.{put_short, put_long}
+use Rattle.behind.proofs.put_reset.Goals as goal
+
+pub returns-then-m-lt-STATE_BYTES : goal.returns-then-m-lt-STATE_BYTES
+returns-then-m-lt-STATE_BYTES c = let p = c.args in put_short reset_at (reset_words p.v) p.m.now c.if-m-lt-STATE_BYTES.true
+
+pub returns : goal.returns
+returns c = let p = c.args in c.put_reset_in.ensures ∙ put_long reset_at (reset_words p.v) p.m.now c.if-m-lt-STATE_BYTES.false

@@ -1,0 +1,5 @@
+use borrow.Author.Rules.{rules}
+use Rattle.session.proofs.Core.took.Goals as goal
+
+pub returns : goal.returns
+returns c = simp c.end_seen.ensures

@@ -1,0 +1,9 @@
+use mathlib.Core.Path.{refl}
+use native.Mathlib.Omega.{arith}
+use borrow.Author.Rules.{rules}
+use Rattle.words.specs.Places.{LEDGER, ledger_at}
+use Rattle.words_session.proofs.Laws.{stored}
+use Rattle.words_session.proofs.put_ledger.Goals as goal
+
+pub returns : goal.returns
+returns c = let p = c.args in let h = c.requires in stored p.s.now ledger_at LEDGER c.store.ensures c.ledger_words-w.ensures refl (omega arith)

@@ -1,0 +1,9 @@
+use mathlib.Core.Path.{refl}
+use native.Mathlib.Omega.{arith}
+use borrow.Author.Rules.{rules}
+use Rattle.words.specs.Places.{TOLD, told_at}
+use Rattle.words_session.proofs.Laws.{compared}
+use Rattle.words_session.proofs.told_stands.Goals as goal
+
+pub returns : goal.returns
+returns c = let p = c.args in let h = c.requires in compared p.s.now told_at TOLD c.same.ensures c.told_words-w.ensures refl (omega arith)

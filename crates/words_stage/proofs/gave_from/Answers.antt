@@ -1,0 +1,25 @@
+use borrow.Author.Rules.{rules}
+use borrow.Author.Tests.{ne_eqb}
+use Rattle.words_stage.proofs.gave_from.Goals as goal
+
+pub returns-in-1 : goal.returns-in-1
+returns-in-1 c = simp c.in-1.is
+
+pub returns-in-2 : goal.returns-in-2
+returns-in-2 c = simp (
+  c.in-2.is,
+  c.size.ensures,
+)
+
+pub returns-in-3 : goal.returns-in-3
+returns-in-3 c = simp (
+  c.in-3.is,
+  c.refusal_from.ensures,
+)
+
+pub returns-in_default : goal.returns-in_default
+returns-in_default c = simp (
+  ne_eqb _ _ c.in_default.in_default-own.rest.0.0.1,
+  ne_eqb _ _ c.in_default.in_default-own.rest.0.1,
+  ne_eqb _ _ c.in_default.in_default-own.rest.1,
+)
