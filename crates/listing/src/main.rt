@@ -2,77 +2,81 @@
 // decimal, bytes and base in hexadecimal; then the total. Where the reply or its layout is refused, it prints `refused` and the number.
 #![tactic(auto)]
 
+ghost use Rattle.std.specs.Prelude.{◌≤◌, length, IfOk};
+
 use bars::Size;
 use layout::{Fit, Layout, Table};
 use reply::{CapCheck, DevCap, Kind};
+use std::io;
+use std::io::Read;
 
-fn text(s: &[u8]) {
-    io::write_all(libc::STDOUT_FILENO, s);
+fn text(rt: &impl Print, s: &[u8]) -> io::Result<()> {
+    rt.write_all(s)
 }
 
-fn refused(number: u32) {
-    text(b"refused ");
-    io::print_decimal(libc::STDOUT_FILENO, number as u64);
-    text(b"\n");
+fn refused(rt: &impl Print, number: u32) -> io::Result<()> {
+    println!(rt; "refused {number}")
 }
 
-fn name(index: usize) {
+fn name(rt: &impl Print, index: usize) -> io::Result<()> {
     match index {
-        Kind::QPC => text(b"QPC"),
-        Kind::RDMARC => text(b"RDMARC"),
-        Kind::ALTC => text(b"ALTC"),
-        Kind::AUXC => text(b"AUXC"),
-        Kind::SRQC => text(b"SRQC"),
-        Kind::CQC => text(b"CQC"),
-        Kind::EQC => text(b"EQC"),
-        Kind::DMPT => text(b"dMPT"),
-        Kind::CMPT => text(b"cMPT"),
-        Kind::MTT => text(b"MTT"),
-        _ => text(b"MCG"),
+        Kind::QPC => text(rt, b"QPC"),
+        Kind::RDMARC => text(rt, b"RDMARC"),
+        Kind::ALTC => text(rt, b"ALTC"),
+        Kind::AUXC => text(rt, b"AUXC"),
+        Kind::SRQC => text(rt, b"SRQC"),
+        Kind::CQC => text(rt, b"CQC"),
+        Kind::EQC => text(rt, b"EQC"),
+        Kind::DMPT => text(rt, b"dMPT"),
+        Kind::CMPT => text(rt, b"cMPT"),
+        Kind::MTT => text(rt, b"MTT"),
+        _ => text(rt, b"MCG"),
     }
 }
 
-fn row(t: Table) {
-    name(t.index);
-    text(b" ");
-    io::print_decimal(libc::STDOUT_FILENO, t.entry);
-    text(b" ");
-    io::print_decimal(libc::STDOUT_FILENO, t.count);
-    text(b" ");
-    io::print_hex(libc::STDOUT_FILENO, t.bytes, 1);
-    text(b" ");
-    io::print_hex(libc::STDOUT_FILENO, t.base, 1);
-    text(b"\n");
+fn row(rt: &impl Print, t: Table) -> io::Result<()> {
+    name(rt, t.index)?;
+    println!(rt; " {} {} {:x} {:x}", t.entry, t.count, t.bytes, t.base)
 }
 
-fn list(l: Layout) {
-    let rows = l.rows;
-    let mut i: usize = 0;
-    while i < Kind::COUNT {
-        row(rows[i]);
-        i = i + 1;
+fn list(rt: &impl Print, l: Layout) -> io::Result<()> {
+    for t in l.rows {
+        row(rt, t)?;
     }
-    text(b"total ");
-    io::print_hex(libc::STDOUT_FILENO, l.total, 1);
-    text(b"\n");
+    println!(rt; "total {:x}", l.total)
 }
 
-fn lay_out(cap: DevCap) {
+fn lay_out(rt: &impl Print, cap: DevCap) -> io::Result<()> {
     let laid = layout::profile(cap);
     let fit = laid.fit;
     match fit {
-        Fit::Accepted => list(laid.layout),
-        _ => refused(fit.number()),
+        Fit::Accepted => list(rt, laid.layout),
+        _ => refused(rt, fit.number()),
     }
 }
 
-fn main() {
-    let mut space = io::buffer();
-    let n = io::read_full(libc::STDIN_FILENO, &mut space);
+// Reads until the buffer is full or the input ends, and returns how many bytes it put at the buffer's start.
+fn read_full(input: &mut impl Read, buf: &mut [u8]) -> io::Result<usize>
+    ensures { IfOk result (λ n. n ≤ length buf.new) }
+{
+    let mut done: usize = 0;
+    for _ in 0..buf.len() {
+        let n = input.read(&mut buf[done..])?;
+        if n == 0 {
+            break;
+        }
+        done = done + n;
+    }
+    Ok(done)
+}
+
+fn main(rt: HostRuntime) -> io::Result<()> {
+    let mut space = [0u8; 4096];
+    let n = read_full(&mut rt.stdin(), &mut space)?;
     let c = reply::dev_cap(&space[..n], Size::Unknown);
     let check = c.check;
     match check {
-        CapCheck::Good => lay_out(c.cap),
-        _ => refused(check.number()),
+        CapCheck::Good => lay_out(&rt, c.cap),
+        _ => refused(&rt, check.number()),
     }
 }

@@ -1,6 +1,7 @@
 // A question as numbers, and as a line of text.
 use crate::text;
 use pci::Question;
+use std::io;
 
 // The kind and the values.
 #[derive(Clone, Copy)]
@@ -66,30 +67,32 @@ const STARTS: [usize; 15] = [
 
 const VALUES: [u64; 14] = [1, 1, 2, 2, 2, 3, 2, 1, 1, 1, 2, 1, 2, 0];
 
-fn name(from: usize, to: usize) {
+fn name(rt: &impl Print, from: usize, to: usize) -> io::Result<()> {
     text::part(
+        rt,
         b"config_read16config_read32config_write16config_write32reg_readreg_writeattributesresourcestallallocatemapunmapfreefinished",
         from,
         to,
-    );
+    )
 }
 
-fn values(n: u64, q: Asked) {
+fn values(rt: &impl Print, n: u64, q: Asked) -> io::Result<()> {
     if 0 < n {
-        text::number(q.a);
+        text::number(rt, q.a)?;
     }
     if 1 < n {
-        text::number(q.b);
+        text::number(rt, q.b)?;
     }
     if 2 < n {
-        text::number(q.c);
+        text::number(rt, q.c)?;
     }
+    Ok(())
 }
 
 // The question's line.
-pub(crate) fn line(q: Asked) {
+pub(crate) fn line(rt: &impl Print, q: Asked) -> io::Result<()> {
     let k = (q.kind % 14) as usize;
-    name(STARTS[k], STARTS[k + 1]);
-    values(VALUES[k], q);
-    text::end_line();
+    name(rt, STARTS[k], STARTS[k + 1])?;
+    values(rt, VALUES[k], q)?;
+    text::end_line(rt)
 }

@@ -9,8 +9,10 @@ mod run;
 mod start;
 mod text;
 
-use libc::STDIN_FILENO;
+ghost use Rattle.std.specs.Prelude.{◌≤◌, length, IfOk};
+
 use record::Head;
+use std::io;
 
 // A record that was run; the end of the list; or a record that is cut off or too long.
 #[derive(Clone, Copy)]
@@ -20,49 +22,67 @@ enum Read {
     Damaged,
 }
 
-// What follows a head, in a slice that has room for it.
-fn read_body(h: Head, body: &mut [u8]) -> Read {
-    let length = record::length(h);
-    if body.len() < length {
-        return Read::Damaged;
+// Reads until the buffer is full or the input ends, and returns how many bytes it put at the buffer's start.
+fn read_full(input: &mut impl io::Read, buf: &mut [u8]) -> io::Result<usize>
+    ensures { IfOk result (λ n. n ≤ length buf.new) }
+{
+    let mut done: usize = 0;
+    for _ in 0..buf.len() {
+        let n = input.read(&mut buf[done..])?;
+        if n == 0 {
+            break;
+        }
+        done = done + n;
     }
-    let n = io::read_full(STDIN_FILENO, &mut body[..length]);
-    if n < length {
-        return Read::Damaged;
-    }
-    run::ran(h, body);
-    Read::Record
+    Ok(done)
 }
 
-fn read_record() -> Read {
+// What follows a head, in a slice that has room for it.
+fn read_body(
+    rt: &impl Print,
+    input: &mut impl io::Read,
+    h: Head,
+    body: &mut [u8],
+) -> io::Result<Read> {
+    let length = record::length(h);
+    if body.len() < length {
+        return Ok(Read::Damaged);
+    }
+    let n = read_full(input, &mut body[..length])?;
+    if n < length {
+        return Ok(Read::Damaged);
+    }
+    run::ran(rt, h, body)?;
+    Ok(Read::Record)
+}
+
+fn read_record(rt: &impl Print, input: &mut impl io::Read) -> io::Result<Read> {
     let mut head = [0u8; 8];
-    let n = io::read_full(STDIN_FILENO, &mut head);
+    let n = read_full(input, &mut head)?;
     if n == 0 {
-        return Read::End;
+        return Ok(Read::End);
     }
     let h = record::head_of(&head);
     let mut body = [0u8; 8192];
-    read_body(h, &mut body)
+    read_body(rt, input, h, &mut body)
 }
 
 // No list has so many records; a proved loop has to end.
-fn replay() {
-    let mut turns = u64::MAX;
-    while turns > 0 {
-        match read_record() {
+fn replay(rt: &impl Print, input: &mut impl io::Read) -> io::Result<()> {
+    for _ in 0..u64::MAX {
+        match read_record(rt, input)? {
             Read::Record => (),
             Read::End => {
-                return;
+                return Ok(());
             }
             Read::Damaged => {
-                text::word(b"damaged\n");
-                return;
+                return text::word(rt, b"damaged\n");
             }
         }
-        turns = turns - 1;
     }
+    Ok(())
 }
 
-fn main() {
-    replay();
+fn main(rt: HostRuntime) -> io::Result<()> {
+    replay(&rt, &mut rt.stdin())
 }

@@ -6,6 +6,7 @@ use crate::machine::{End, Machine, Task};
 use crate::record::{Head, Stored};
 use crate::{asked, machine, record, start, text};
 use pci::Answer;
+use std::io;
 
 // How far a run is: the next answer, how often the pair that it ends was given, the last two questions, and whether the answers ran out.
 #[derive(Clone, Copy)]
@@ -53,23 +54,22 @@ fn answered(m: Machine, kind: u8, at: u16, h: Head, body: &[u8]) -> Machine {
 }
 
 // The question's line. Where a pair of answers is given again, the question must be the one that stood there before, and is not written again.
-fn shown(given: u64, older: Asked, q: Asked) {
+fn shown(rt: &impl Print, given: u64, older: Asked, q: Asked) -> io::Result<()> {
     if given == 0 {
-        asked::line(q);
-        return;
+        return asked::line(rt, q);
     }
     if asked::same(q, older) {
-        return;
+        return Ok(());
     }
-    text::word(b"other ");
-    asked::line(q);
+    text::word(rt, b"other ")?;
+    asked::line(rt, q)
 }
 
 // How often a pair of answers was given.
-fn times(n: u64) {
-    text::word(b"times");
-    text::number(n);
-    text::end_line();
+fn times(rt: &impl Print, n: u64) -> io::Result<()> {
+    text::word(rt, b"times")?;
+    text::number(rt, n)?;
+    text::end_line(rt)
 }
 
 fn next(at: u16) -> u16 {
@@ -87,87 +87,84 @@ fn before(at: u16) -> u16 {
 }
 
 // The next answer; or the one before again, where this one ends a pair that is given more often.
-fn moved(p: Place, n: u64) -> Place {
+fn moved(rt: &impl Print, p: Place, n: u64) -> io::Result<Place> {
     if n < 2 {
-        return Place {
+        return Ok(Place {
             at: next(p.at),
             ..p
-        };
+        });
     }
     if p.given < n - 1 {
-        return Place {
+        return Ok(Place {
             at: before(p.at),
             given: p.given + 1,
             ..p
-        };
+        });
     }
-    times(n);
-    Place {
+    times(rt, n)?;
+    Ok(Place {
         at: next(p.at),
         given: 0,
         ..p
-    }
+    })
 }
 
 // No answer is left: the open question.
-fn left_open(p: Place, q: Asked) -> Place {
-    text::word(b"open ");
-    asked::line(q);
-    Place { open: true, ..p }
+fn left_open(rt: &impl Print, p: Place, q: Asked) -> io::Result<Place> {
+    text::word(rt, b"open ")?;
+    asked::line(rt, q)?;
+    Ok(Place { open: true, ..p })
 }
 
 // The question is written.
-fn onward(p: Place, q: Asked, h: Head, body: &[u8]) -> Place {
+fn onward(rt: &impl Print, p: Place, q: Asked, h: Head, body: &[u8]) -> io::Result<Place> {
     if q.kind == Asked::FENCE {
-        return p;
+        return Ok(p);
     }
     if h.answers <= p.at {
-        return left_open(p, q);
+        return left_open(rt, p, q);
     }
     let s = record::taken(h, body, p.at);
     let older = p.older;
     let newer = p.newer;
-    shown(p.given, older, q);
+    shown(rt, p.given, older, q)?;
     let told = Place {
         older: newer,
         newer: q,
         ..p
     };
-    moved(told, s.times)
+    moved(rt, told, s.times)
 }
 
 // The number and the values; and whether answers are left.
-fn ended(e: End, early: bool) {
-    text::word(b"ended");
-    text::number(e.number as u64);
-    text::number(e.a);
-    text::number(e.b);
-    text::number(e.c);
-    text::number(e.d);
+fn ended(rt: &impl Print, e: End, early: bool) -> io::Result<()> {
+    text::word(rt, b"ended")?;
+    text::number(rt, e.number as u64)?;
+    text::number(rt, e.a)?;
+    text::number(rt, e.b)?;
+    text::number(rt, e.c)?;
+    text::number(rt, e.d)?;
     if early {
-        text::word(b" early");
+        text::word(rt, b" early")?;
     }
-    text::end_line();
+    text::end_line(rt)
 }
 
 // A run, and its text. A command asks no more than 1,202,000 questions.
-pub(crate) fn ran(h: Head, body: &[u8]) {
+pub(crate) fn ran(rt: &impl Print, h: Head, body: &[u8]) -> io::Result<()> {
     let mut m = start::start(h, body);
     let mut p = begin();
-    let mut turns: u64 = 4000000;
-    while turns > 0 {
+    for _ in 0..4000000 {
         let task = m.task;
         if let Task::Over(e) = task {
-            ended(e, p.at < h.answers);
-            return;
+            return ended(rt, e, p.at < h.answers);
         }
         if p.open {
-            return;
+            return Ok(());
         }
         let q = asked::numbers(machine::asks(m));
         m = answered(m, q.kind, p.at, h, body);
-        p = onward(p, q, h, body);
-        turns = turns - 1;
+        p = onward(rt, p, q, h, body)?;
     }
-    text::word(b"no end\n");
+    text::word(rt, b"no end\n")
 }

@@ -1,25 +1,25 @@
 // Text on standard output.
-use libc::STDOUT_FILENO;
+use std::io;
 
-pub(crate) fn word(s: &[u8]) {
-    io::write_all(STDOUT_FILENO, s);
+pub(crate) fn word(rt: &impl Print, s: &[u8]) -> io::Result<()> {
+    rt.write_all(s)
 }
 
 // The part of a text from one place to another.
-pub(crate) fn part(s: &[u8], from: usize, to: usize) {
+pub(crate) fn part(rt: &impl Print, s: &[u8], from: usize, to: usize) -> io::Result<()> {
     if to <= s.len() {
         if from <= to {
-            word(&s[from..to]);
+            return word(rt, &s[from..to]);
         }
     }
+    Ok(())
 }
 
 // A space and the number in hexadecimal.
-pub(crate) fn number(v: u64) {
-    word(b" ");
-    io::print_hex(STDOUT_FILENO, v, 1);
+pub(crate) fn number(rt: &impl Print, v: u64) -> io::Result<()> {
+    print!(rt; " {v:x}")
 }
 
-pub(crate) fn end_line() {
-    word(b"\n");
+pub(crate) fn end_line(rt: &impl Print) -> io::Result<()> {
+    word(rt, b"\n")
 }

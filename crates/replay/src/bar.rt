@@ -67,8 +67,7 @@ fn choose(args: &[u8], out: &mut [u8]) {
 fn ask(args: &[u8], first: u8, start: Choice, out: &mut [u8]) {
     let mut index = first;
     let mut c = start;
-    let mut n: usize = 5;
-    while n < 16 {
+    for n in 5..16 {
         words::put(out, n, answers::words::wide8(index));
         match bars::step(c, stored(args, index)) {
             Next::Ask(i, next) => {
@@ -80,7 +79,6 @@ fn ask(args: &[u8], first: u8, start: Choice, out: &mut [u8]) {
                 return;
             }
         }
-        n = n + 1;
     }
 }
 

@@ -58,10 +58,8 @@ fn read(leaf: usize, args: &[u8], bytes: &[u8], out: &mut [u8]) -> u32 {
 fn copy(bytes: &[u8], out: &mut [u8])
     requires { 8 + length bytes.now ≤ length out.old }
 {
-    let mut i: usize = 0;
-    while i < bytes.len() {
+    for i in 0..bytes.len() {
         out[BEHIND + i] = bytes[i];
-        i = i + 1;
     }
 }
 

@@ -10,10 +10,10 @@ mod records;
 mod tables;
 mod words;
 
-ghost use Rattle.std.specs.Prelude.{◌<◌};
+ghost use Rattle.std.specs.Prelude.{◌<◌, ◌≤◌, length, IfOk};
 
-use libc::{STDIN_FILENO, STDOUT_FILENO};
 use records::Head;
+use std::io;
 
 // How many answers of each leaf were compared, and how many of them differ; last those with a number that no leaf has.
 #[derive(Clone, Copy)]
@@ -50,79 +50,84 @@ fn counted(t: Tally, leaf: usize, same: bool) -> Tally {
     next
 }
 
+// Reads until the buffer is full or the input ends, and returns how many bytes it put at the buffer's start.
+fn read_full(input: &mut impl io::Read, buf: &mut [u8]) -> io::Result<usize>
+    ensures { IfOk result (λ n. n ≤ length buf.new) }
+{
+    let mut done: usize = 0;
+    for _ in 0..buf.len() {
+        let n = input.read(&mut buf[done..])?;
+        if n == 0 {
+            break;
+        }
+        done = done + n;
+    }
+    Ok(done)
+}
+
 // What follows a head, in a slice that has room for it.
-fn read_body(h: Head, body: &mut [u8]) -> Read {
+fn read_body(input: &mut impl io::Read, h: Head, body: &mut [u8]) -> io::Result<Read> {
     let length = records::length(h);
     if body.len() < length {
-        return Read::Damaged;
+        return Ok(Read::Damaged);
     }
-    let n = io::read_full(STDIN_FILENO, &mut body[..length]);
+    let n = read_full(input, &mut body[..length])?;
     if n < length {
-        return Read::Damaged;
+        return Ok(Read::Damaged);
     }
-    Read::Record(h.leaf as usize, records::agrees(h, body))
+    Ok(Read::Record(h.leaf as usize, records::agrees(h, body)))
 }
 
-fn read_record() -> Read {
+fn read_record(input: &mut impl io::Read) -> io::Result<Read> {
     let mut head = [0u8; 8];
-    let n = io::read_full(STDIN_FILENO, &mut head);
+    let n = read_full(input, &mut head)?;
     if n == 0 {
-        return Read::End;
+        return Ok(Read::End);
     }
     let h = records::head_of(&head);
-    let mut body = io::buffer();
-    read_body(h, &mut body)
+    let mut body = [0u8; 4096];
+    read_body(input, h, &mut body)
 }
 
-fn text(s: &[u8]) {
-    io::write_all(STDOUT_FILENO, s);
-}
-
-fn line(leaf: usize, compared: u64, differ: u64) {
-    names::print(leaf);
-    text(b" ");
-    io::print_decimal(STDOUT_FILENO, compared);
-    text(b" ");
-    io::print_decimal(STDOUT_FILENO, differ);
-    text(b"\n");
+fn line(rt: &impl Print, leaf: usize, compared: u64, differ: u64) -> io::Result<()> {
+    names::print(rt, leaf)?;
+    println!(rt; " {compared} {differ}")
 }
 
 // The leaves that had answers, by number.
-fn report(t: Tally) {
-    let mut i: usize = 0;
-    while i < 38 {
+fn report(rt: &impl Print, t: Tally) -> io::Result<()> {
+    for i in 0..38 {
         if t.compared[i] != 0 {
-            line(i, t.compared[i], t.differ[i]);
+            line(rt, i, t.compared[i], t.differ[i])?;
         }
-        i = i + 1;
     }
+    Ok(())
 }
 
 // No list has so many records; a proved loop has to end.
-fn replay() -> Tally {
+fn replay(rt: &impl Print, input: &mut impl io::Read) -> io::Result<Tally> {
     let mut t = Tally {
         compared: [0u64; 38],
         differ: [0u64; 38],
     };
-    let mut turns = u64::MAX;
-    while turns > 0 {
-        match read_record() {
+    for _ in 0..u64::MAX {
+        match read_record(input)? {
             Read::Record(leaf, same) => {
                 t = counted(t, leaf, same);
             }
             Read::End => {
-                return t;
+                return Ok(t);
             }
             Read::Damaged => {
-                text(b"damaged\n");
-                return t;
+                println!(rt; "damaged")?;
+                return Ok(t);
             }
         }
-        turns = turns - 1;
     }
-    t
+    Ok(t)
 }
 
-fn main() {
-    report(replay());
+fn main(rt: HostRuntime) -> io::Result<()> {
+    let t = replay(&rt, &mut rt.stdin())?;
+    report(&rt, t)
 }

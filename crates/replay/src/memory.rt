@@ -44,18 +44,16 @@ fn blocks(args: &[u8], out: &mut [u8]) {
 
 fn cut_all(start: Cutter, out: &mut [u8]) {
     let mut c = start;
-    let mut k: usize = 1;
-    while k < 540 {
+    for i in 0..180 {
         match dma::cut(Block::LOG_MAX, c) {
             Piece::Next(b, rest) => {
-                put_block(out, k, b);
+                put_block(out, 3 * i + 1, b);
                 c = rest;
             }
             Piece::End => {
                 return;
             }
         }
-        k = k + 3;
     }
 }
 

@@ -77,12 +77,10 @@ fn matches(out: &[u8], stored: &[u8]) -> bool {
     if out.len() < stored.len() {
         return false;
     }
-    let mut i: usize = 0;
-    while i < out.len() {
+    for i in 0..out.len() {
         if out[i] != byte_or_zero(stored, i) {
             return false;
         }
-        i = i + 1;
     }
     true
 }

@@ -1,5 +1,6 @@
 // A question as numbers, and as a line of text.
 use crate::{item, text};
+use std::io;
 
 // What a call gives: 0 or its refusal; the kind of the question and its values; and how many undo records are left.
 #[derive(Clone, Copy)]
@@ -50,38 +51,41 @@ const STARTS: [usize; 15] = [0, 0, 13, 26, 40, 54, 62, 71, 81, 89, 94, 102, 105,
 
 const VALUES: [u64; 14] = [0, 1, 1, 2, 2, 2, 3, 2, 1, 1, 1, 2, 1, 2];
 
-fn part(s: &[u8], from: usize, to: usize) {
+fn part(rt: &impl Print, s: &[u8], from: usize, to: usize) -> io::Result<()> {
     if to <= s.len() {
         if from <= to {
-            text::word(&s[from..to]);
+            return text::word(rt, &s[from..to]);
         }
     }
+    Ok(())
 }
 
-fn name(from: usize, to: usize) {
+fn name(rt: &impl Print, from: usize, to: usize) -> io::Result<()> {
     part(
+        rt,
         b"config_read16config_read32config_write16config_write32reg_readreg_writeattributesresourcestallallocatemapunmapfree",
         from,
         to,
-    );
+    )
 }
 
-fn values(n: u64, q: Asked) {
+fn values(rt: &impl Print, n: u64, q: Asked) -> io::Result<()> {
     if 0 < n {
-        text::number(q.a);
+        text::number(rt, q.a)?;
     }
     if 1 < n {
-        text::number(q.b);
+        text::number(rt, q.b)?;
     }
     if 2 < n {
-        text::number(q.c);
+        text::number(rt, q.c)?;
     }
+    Ok(())
 }
 
 // The question's line.
-pub(crate) fn line(q: Asked) {
+pub(crate) fn line(rt: &impl Print, q: Asked) -> io::Result<()> {
     let k = (q.kind % 14) as usize;
-    name(STARTS[k], STARTS[k + 1]);
-    values(VALUES[k], q);
-    text::end_line();
+    name(rt, STARTS[k], STARTS[k + 1])?;
+    values(rt, VALUES[k], q)?;
+    text::end_line(rt)
 }

@@ -1,6 +1,9 @@
 // An item of the input: a kind and two values, and the number of bytes that follow it, of 1, 8, 8 and 2 bytes.
+ghost use Rattle.std.specs.Prelude.{◌≤◌, length, IfOk};
+
 use fields::{Order, Read64};
-use libc::STDIN_FILENO;
+use std::io;
+use std::io::Read;
 
 #[derive(Clone, Copy)]
 pub(crate) struct Item {
@@ -74,23 +77,38 @@ fn read(head: &[u8]) -> Item {
     }
 }
 
+// Reads until the buffer is full or the input ends, and returns how many bytes it put at the buffer's start.
+fn read_full(input: &mut impl Read, buf: &mut [u8]) -> io::Result<usize>
+    ensures { IfOk result (λ n. n ≤ length buf.new) }
+{
+    let mut done: usize = 0;
+    for _ in 0..buf.len() {
+        let n = input.read(&mut buf[done..])?;
+        if n == 0 {
+            break;
+        }
+        done = done + n;
+    }
+    Ok(done)
+}
+
 // The item, once its bytes are there, in a slice that has room for them.
-fn with_bytes(i: Item, room: &mut [u8]) -> Item {
+fn with_bytes(input: &mut impl Read, i: Item, room: &mut [u8]) -> io::Result<Item> {
     let n = i.bytes as usize;
     if room.len() < n {
-        return end();
+        return Ok(end());
     }
-    if io::read_full(STDIN_FILENO, &mut room[..n]) < n {
-        return end();
+    if read_full(input, &mut room[..n])? < n {
+        return Ok(end());
     }
-    i
+    Ok(i)
 }
 
 // The next item.
-pub(crate) fn next(room: &mut [u8]) -> Item {
+pub(crate) fn next(input: &mut impl Read, room: &mut [u8]) -> io::Result<Item> {
     let mut head = [0u8; 19];
-    if io::read_full(STDIN_FILENO, &mut head) < 19 {
-        return end();
+    if read_full(input, &mut head)? < 19 {
+        return Ok(end());
     }
-    with_bytes(read(&head), room)
+    with_bytes(input, read(&head), room)
 }

@@ -8,6 +8,8 @@ mod run;
 mod text;
 mod told;
 
-fn main() {
-    run::lists();
+use std::io;
+
+fn main(rt: HostRuntime) -> io::Result<()> {
+    run::lists(&rt, &mut rt.stdin())
 }

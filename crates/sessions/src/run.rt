@@ -3,6 +3,8 @@ use crate::asked::Asked;
 use crate::item::Item;
 use crate::{asked, item, text, told};
 use session::Top;
+use std::io;
+use std::io::Read;
 
 // How far a list is: the kind of its last call; and the undo list, which is the caller's: how many records there are, and the two values of each, oldest first.
 #[derive(Clone, Copy)]
@@ -50,23 +52,23 @@ fn top(p: Place) -> Top {
 }
 
 // A record is pushed on the list.
-fn pushed(p: Place, i: Item) -> Place {
-    text::line(b"call", Item::PUSH as u64);
+fn pushed(rt: &impl Print, p: Place, i: Item) -> io::Result<Place> {
+    text::line(rt, b"call", Item::PUSH as u64)?;
     if p.undo < 256 {
         let mut heads = p.heads;
         let mut params = p.params;
         let k = p.undo as usize;
         heads[k] = i.a;
         params[k] = i.b;
-        text::line(b"undo", p.undo + 1);
-        return Place {
+        text::line(rt, b"undo", p.undo + 1)?;
+        return Ok(Place {
             undo: p.undo + 1,
             heads,
             params,
             ..p
-        };
+        });
     }
-    p
+    Ok(p)
 }
 
 fn byte_or(s: &[u8], i: usize, other: u8) -> u8 {
@@ -78,20 +80,23 @@ fn byte_or(s: &[u8], i: usize, other: u8) -> u8 {
 
 // These bytes, and others behind them.
 fn fill(out: &mut [u8], s: &[u8], other: u8) {
-    let mut i: usize = 0;
-    while i < out.len() {
+    for i in 0..out.len() {
         out[i] = byte_or(s, i, other);
-        i = i + 1;
     }
 }
 
 // A new list: a fresh session. What the mailboxes hold before is no zero, so that a byte which the session leaves is seen.
-fn fresh(state: &mut [u8], inbox: &mut [u8], outbox: &mut [u8]) -> Place {
-    text::word(b"list\n");
+fn fresh(
+    rt: &impl Print,
+    state: &mut [u8],
+    inbox: &mut [u8],
+    outbox: &mut [u8],
+) -> io::Result<Place> {
+    text::word(rt, b"list\n")?;
     turns::fresh_bytes(state);
     fill(inbox, b"", 0xa5);
     fill(outbox, b"", 0xa5);
-    begin()
+    Ok(begin())
 }
 
 // The session is handed an answer.
@@ -112,15 +117,16 @@ fn given(
 
 // The session is called, or handed an answer.
 fn said(
+    rt: &impl Print,
     i: Item,
     list: &[u8],
     t: Top,
     state: &mut [u8],
     inbox: &mut [u8],
     outbox: &mut [u8],
-) -> Asked {
+) -> io::Result<Asked> {
     if Item::ANSWER <= i.kind {
-        return given(
+        return Ok(given(
             (i.kind % 16) as u32,
             i.a,
             i.b,
@@ -129,10 +135,10 @@ fn said(
             state,
             inbox,
             outbox,
-        );
+        ));
     }
     let mut out = [0u8; 40];
-    text::line(b"call", i.kind as u64);
+    text::line(rt, b"call", i.kind as u64)?;
     let code = turn_call::called(
         state,
         i.kind as u32,
@@ -147,31 +153,36 @@ fn said(
         t,
         &mut out,
     );
-    asked::read(code, &out)
+    Ok(asked::read(code, &out))
 }
 
-// The kind of an answer where an even number of answers is left, and else `Done`.
-fn in_turn(left: u64, kind: u32) -> u32 {
-    if left % 2 == 0 {
+// The kind of an answer where an even number of answers was given, and else `Done`.
+fn in_turn(gone: u64, kind: u32) -> u32 {
+    if gone % 2 == 0 {
         return kind;
     }
     DONE
 }
 
 // An answer and `Done` are given in turn, so often as the first value says. The line has that number, and a checksum of the questions that they led to, which have no lines.
-fn again(i: Item, t: Top, state: &mut [u8], inbox: &mut [u8], outbox: &mut [u8]) {
+fn again(
+    rt: &impl Print,
+    i: Item,
+    t: Top,
+    state: &mut [u8],
+    inbox: &mut [u8],
+    outbox: &mut [u8],
+) -> io::Result<()> {
     let kind = (i.kind % 16) as u32;
     let mut sum: u64 = 0;
-    let mut left = i.a % 4294967296 * 2;
-    while left > 0 {
-        let q = given(in_turn(left, kind), i.b, 0, b"", t, state, inbox, outbox);
+    for gone in 0..i.a % 4294967296 * 2 {
+        let q = given(in_turn(gone, kind), i.b, 0, b"", t, state, inbox, outbox);
         sum = asked::counted(sum, q);
-        left = left - 1;
     }
-    text::word(b"times");
-    text::number(i.a);
-    text::number(sum);
-    text::end_line();
+    text::word(rt, b"times")?;
+    text::number(rt, i.a)?;
+    text::number(rt, sum)?;
+    text::end_line(rt)
 }
 
 // The kind of the call that runs once an item of a kind has come.
@@ -184,73 +195,81 @@ fn running(call: u8, kind: u8) -> u8 {
 
 // A call or an answer, and what it has led to.
 fn onward(
+    rt: &impl Print,
     p: Place,
     i: Item,
     list: &[u8],
     state: &mut [u8],
     inbox: &mut [u8],
     outbox: &mut [u8],
-) -> Place {
+) -> io::Result<Place> {
     let call = running(p.call, i.kind);
-    let q = said(i, list, top(p), state, inbox, outbox);
-    told::came(q, call, state, inbox, outbox);
-    Place {
+    let q = said(rt, i, list, top(p), state, inbox, outbox)?;
+    told::came(rt, q, call, state, inbox, outbox)?;
+    Ok(Place {
         call,
         undo: q.undo,
         ..p
-    }
+    })
 }
 
 // What an item asks for; its bytes are the first of those that were read.
 fn turn(
+    rt: &impl Print,
     p: Place,
     i: Item,
     room: &[u8],
     state: &mut [u8],
     inbox: &mut [u8],
     outbox: &mut [u8],
-) -> Place {
+) -> io::Result<Place> {
     if i.kind == Item::LIST {
-        return fresh(state, inbox, outbox);
+        return fresh(rt, state, inbox, outbox);
     }
     if i.kind == Item::PUSH {
-        return pushed(p, i);
+        return pushed(rt, p, i);
     }
     let n = i.bytes as usize;
     if room.len() < n {
-        return p;
+        return Ok(p);
     }
     let list = &room[..n];
     if i.kind == Item::OUTBOX {
         fill(outbox, list, 0);
-        return p;
+        return Ok(p);
     }
     if i.kind < Item::AGAIN {
-        return onward(p, i, list, state, inbox, outbox);
+        return onward(rt, p, i, list, state, inbox, outbox);
     }
-    again(i, top(p), state, inbox, outbox);
-    p
+    again(rt, i, top(p), state, inbox, outbox)?;
+    Ok(p)
 }
 
 // The items, one after the other. No input has so many; a proved loop has to end.
-fn run(room: &mut [u8], state: &mut [u8], inbox: &mut [u8], outbox: &mut [u8]) {
+fn run(
+    rt: &impl Print,
+    input: &mut impl Read,
+    room: &mut [u8],
+    state: &mut [u8],
+    inbox: &mut [u8],
+    outbox: &mut [u8],
+) -> io::Result<()> {
     let mut p = begin();
-    let mut left = u64::MAX;
-    while left > 0 {
-        let i = item::next(room);
+    for _ in 0..u64::MAX {
+        let i = item::next(input, room)?;
         if i.kind == Item::END {
-            return;
+            break;
         }
-        p = turn(p, i, room, state, inbox, outbox);
-        left = left - 1;
+        p = turn(rt, p, i, room, state, inbox, outbox)?;
     }
+    Ok(())
 }
 
 // All lists.
-pub(crate) fn lists() {
+pub(crate) fn lists(rt: &impl Print, input: &mut impl Read) -> io::Result<()> {
     let mut room = [0u8; 4096];
     let mut state = [0u8; words::STATE_BYTES];
     let mut inbox = [0u8; 4096];
     let mut outbox = [0u8; 4096];
-    run(&mut room, &mut state, &mut inbox, &mut outbox);
+    run(rt, input, &mut room, &mut state, &mut inbox, &mut outbox)
 }
