@@ -147,7 +147,7 @@ judging_still base x y =
 choosing_still : (base i : ℕ) (y : Candidate) → Stills (u.choosing base i y)
 choosing_still base i y = (
   tt,
-  told_still _ (λ a. stills_pick (eqb i y.index) _ _ (judging_still base (u.candidate i a) y)
+  told_still _ (λ a. stills_pick (eqb i y.index) (u.judging base (u.candidate i a) y) (u.second base (u.candidate i a) y.index) (judging_still base (u.candidate i a) y)
       (tt, told_still _ (λ c. judging_still base (u.candidate i a) (u.candidate y.index c)))),
 )
 

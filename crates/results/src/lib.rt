@@ -10,7 +10,7 @@ ghost use Rattle.session.specs.Core.{Behind, full};
 ghost use Rattle.session.specs.Session.{no_slot, is_held};
 ghost use Rattle.session.specs.declared.Core.{Core as Head};
 ghost use Rattle.fw_plan.specs.Calls.{ended_as, outcome_of};
-ghost use Rattle.results.specs.Books.{LENT, RANGES, BOOKS, ranges_at, lent_at, spot_of, area_words, range_words, lent_words, held_from, count_of, ranges_of, lent_of};
+ghost use Rattle.results.specs.Books.{LENT, RANGES, BOOKS as BOOK_WORDS, ranges_at, lent_at, spot_of, area_words, range_words, lent_words, held_from, count_of, ranges_of, lent_of};
 ghost use Rattle.results.specs.Books.{rows_words, areas_words, head_row, head_words, books_in};
 ghost use Rattle.results.specs.Results.{values_of, end_word, refused_words, gave_words, outcome_words, merged, table_words, put_said, put_ports, put_layout, setup_in};
 
@@ -374,7 +374,7 @@ fn put_range(out: &mut [u8], k: usize, x: Slot)
 }
 
 fn next_range(out: &mut [u8], n: usize, x: Slot)
-    requires { (BOOKS * 8 ≤ length out.old) × (n < RANGES) }
+    requires { (BOOK_WORDS * 8 ≤ length out.old) × (n < RANGES) }
     ensures { out.new ≡ pick (is_held x) (put_words out.old (ranges_at + n * 4) (range_words x)) out.old }
 {
     if x.runs == 0 {
@@ -384,7 +384,7 @@ fn next_range(out: &mut [u8], n: usize, x: Slot)
 }
 
 fn held_ranges(out: &mut [u8], m: &[u8]) -> usize
-    requires { BOOKS * 8 ≤ length out.old }
+    requires { BOOK_WORDS * 8 ≤ length out.old }
     ensures upper_bound { result ≤ RANGES }
     ensures result_after { put_words out.new (ranges_at + result * 4) (rows_words range_words (RANGES - result) 0 []) ≡ put_words out.old ranges_at (rows_words range_words RANGES 0 (ranges_of (behind_in m.now).slots)) }
 {
@@ -400,7 +400,7 @@ fn held_ranges(out: &mut [u8], m: &[u8]) -> usize
 }
 
 fn no_ranges(out: &mut [u8], n: usize)
-    requires { (BOOKS * 8 ≤ length out.old) × (n ≤ RANGES) }
+    requires { (BOOK_WORDS * 8 ≤ length out.old) × (n ≤ RANGES) }
     ensures { out.new ≡ put_words out.old (ranges_at + n * 4) (rows_words range_words (RANGES - n) 0 []) }
 {
     let none = no_slot();
@@ -412,7 +412,7 @@ fn no_ranges(out: &mut [u8], n: usize)
 }
 
 fn put_ranges(out: &mut [u8], m: &[u8])
-    requires { BOOKS * 8 ≤ length out.old }
+    requires { BOOK_WORDS * 8 ≤ length out.old }
     ensures { out.new ≡ put_words out.old ranges_at (rows_words range_words RANGES 0 (ranges_of (behind_in m.now).slots)) }
 {
     let n = held_ranges(out, m);
@@ -429,7 +429,7 @@ fn put_one(out: &mut [u8], k: usize, x: Slot)
 }
 
 fn next_lent(out: &mut [u8], n: usize, x: Slot)
-    requires { (BOOKS * 8 ≤ length out.old) × (n < LENT) }
+    requires { (BOOK_WORDS * 8 ≤ length out.old) × (n < LENT) }
     ensures { out.new ≡ pick (is_held x) (put_words out.old (lent_at + n * 3) (lent_words x)) out.old }
 {
     if x.runs == 0 {
@@ -439,7 +439,7 @@ fn next_lent(out: &mut [u8], n: usize, x: Slot)
 }
 
 fn held_lent(out: &mut [u8], m: &[u8]) -> usize
-    requires { BOOKS * 8 ≤ length out.old }
+    requires { BOOK_WORDS * 8 ≤ length out.old }
     ensures upper_bound { result ≤ LENT }
     ensures result_after { put_words out.new (lent_at + result * 3) (rows_words lent_words (LENT - result) 0 []) ≡ put_words out.old lent_at (rows_words lent_words LENT 0 (lent_of (behind_in m.now).slots)) }
 {
@@ -455,7 +455,7 @@ fn held_lent(out: &mut [u8], m: &[u8]) -> usize
 }
 
 fn no_lent(out: &mut [u8], n: usize)
-    requires { (BOOKS * 8 ≤ length out.old) × (n ≤ LENT) }
+    requires { (BOOK_WORDS * 8 ≤ length out.old) × (n ≤ LENT) }
     ensures { out.new ≡ put_words out.old (lent_at + n * 3) (rows_words lent_words (LENT - n) 0 []) }
 {
     let none = no_slot();
@@ -467,7 +467,7 @@ fn no_lent(out: &mut [u8], n: usize)
 }
 
 fn put_lent(out: &mut [u8], m: &[u8])
-    requires { BOOKS * 8 ≤ length out.old }
+    requires { BOOK_WORDS * 8 ≤ length out.old }
     ensures { out.new ≡ put_words out.old lent_at (rows_words lent_words LENT 0 (lent_of (behind_in m.now).slots)) }
 {
     let n = held_lent(out, m);

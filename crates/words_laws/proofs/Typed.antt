@@ -2,10 +2,11 @@
 -- array at its length; so what the code writes is read back, by `trip`, where the counts are within the slots.
 use Prim.Native.Nat.{◌≤◌}
 use mathlib.Core.List.{List}
+use mathlib.Core.Path.{sym, subst}
 use mir.Val.{Val}
 use denote.Laws.{Is}
 use Rattle.words.specs.Places.{SLOTS}
-use Rattle.words.proofs.Typed.{array_length, array_each}
+use Rattle.words.proofs.Typed.{array_length, array_each, map_same}
 use Rattle.words_task.proofs.Typed.{task_typed}
 use Rattle.words_stage.proofs.Typed.{stage_typed}
 use Rattle.words_books.specs.Fits.{SlotFits}
@@ -13,7 +14,9 @@ use Rattle.words_books.proofs.Typed.{wire_typed, failure_typed, closing_typed, s
 use Rattle.words_info.proofs.Typed.{pick_typed, func_typed, cap_typed, port_typed}
 use Rattle.words_beside.proofs.Typed.{reset_typed, find_typed}
 use Rattle.session.specs.declared.Session.{Session}
-use Rattle.session.specs.contracts.Slot.{the_field as slot-field}
+use Rattle.session.specs.contracts.Slot.{the_row as slot-row}
+use Rattle.session.specs.declared.Slot.{Slot}
+use denote.Struct.Field.{array_field, row_field}
 use Rattle.session.specs.contracts.Session.{the_row as session-row}
 use Rattle.session.specs.declared.Core.{Core}
 use Rattle.session.specs.contracts.Core.{the_row as core-row}
@@ -25,6 +28,7 @@ session_typed s vs h few some =
     let books = h.1.1.1.1.0.1.1 in
     let lists = books.1.0.1.1 in
     let info = h.1.1.1.1.1.0.1.1 in
+    let slots = subst (λ (ys : List Slot). Is (array_field (row_field slot-row) SLOTS).row ys _) (sym (map_same s.books.lists.slots)) lists.0 in
     record {
       task = task_typed s.work.task _ work.0;
       stage = stage_typed s.stage _ h.1.1.0;
@@ -44,8 +48,8 @@ session_typed s vs h few some =
       find = find_typed s.work.find _ work.1.1.0;
       ranges = few;
       lends = some;
-      slots_length = array_length slot-field SLOTS s.books.lists.slots _ lists.0;
-      slots = array_each slot-field SlotFits (λ x us y. slot_typed x us y) SLOTS s.books.lists.slots _ lists.0;
+      slots_length = array_length (row_field slot-row) SLOTS s.books.lists.slots _ slots;
+      slots = array_each (row_field slot-row) SlotFits (λ x us y. slot_typed x us y) SLOTS s.books.lists.slots _ slots;
     }
 
 -- THE SAME OF A HEAD, which is what the code has by value. Of a slot and of each other part that is written in place: `slot_typed`, `cap_typed`, `port_typed`, `reset_typed`, `find_typed`.

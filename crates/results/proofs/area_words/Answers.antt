@@ -1,0 +1,12 @@
+use borrow.Author.Rules.{rules}
+use borrow.Author.Tests.{eq-eqb, ne_eqb}
+use Rattle.results.proofs.area_words.Goals as goal
+
+pub returns-then-x-eq0 : goal.returns-then-x-eq0
+returns-then-x-eq0 c = simp (eq-eqb _ _ c.if-x-eq0.true)
+
+pub returns : goal.returns
+returns c = simp (
+  ne_eqb _ _ c.if-x-eq0.false,
+  c.spot.ensures,
+)

@@ -1,0 +1,20 @@
+use borrow.Author.Rules.{rules}
+use Prim.Native.Nat.{ℕ, ◌+◌, ◌-◌, ◌*◌, ◌≤◌}
+use mathlib.Core.Path.{◌≡◌, refl, ap, ◌∙◌}
+use mathlib.Core.List.{List, []}
+use native.Mathlib.Omega.{arith}
+use lib.ListN.{length}
+use Rattle.words.specs.Words.{put_words}
+use Rattle.words.proofs.Laws.{length_words}
+use Rattle.session.specs.Session.{no_slot}
+use Rattle.session.specs.declared.Slot.{Slot}
+use Rattle.results.specs.Books.{RANGES, ranges_at, range_words, rows_words}
+use Rattle.results.proofs.Books.{none_put, rows_done}
+use Rattle.results.proofs.no_ranges.Given as goal
+
+abbrev pub invariant-loop-i : goal.invariant-loop-i
+invariant-loop-i l =     (l.n ≤ l.i) × (l.i ≤ RANGES) × (length l.out ≡ length l.initial.out)
+    × (put_words l.out (ranges_at + l.i * 4) (rows_words range_words (RANGES - l.i) 0 []) ≡ put_words l.initial.out (ranges_at + l.n * 4) (rows_words range_words (RANGES - l.n) 0 []))
+
+abbrev pub decreases-loop-i : goal.decreases-loop-i
+decreases-loop-i l = RANGES - l.i
