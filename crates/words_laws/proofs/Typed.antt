@@ -2,11 +2,10 @@
 -- array at its length; so what the code writes is read back, by `trip`, where the counts are within the slots.
 use Prim.Native.Nat.{◌≤◌}
 use mathlib.Core.List.{List}
-use mathlib.Core.Path.{sym, subst}
 use mir.Val.{Val}
 use denote.Laws.{Is}
 use Rattle.words.specs.Places.{SLOTS}
-use Rattle.words.proofs.Typed.{array_length, array_each, map_same}
+use Rattle.words.proofs.Typed.{array_length, array_each, array_own}
 use Rattle.words_task.proofs.Typed.{task_typed}
 use Rattle.words_stage.proofs.Typed.{stage_typed}
 use Rattle.words_books.specs.Fits.{SlotFits}
@@ -15,8 +14,7 @@ use Rattle.words_info.proofs.Typed.{pick_typed, func_typed, cap_typed, port_type
 use Rattle.words_beside.proofs.Typed.{reset_typed, find_typed}
 use Rattle.session.specs.declared.Session.{Session}
 use Rattle.session.specs.contracts.Slot.{the_row as slot-row}
-use Rattle.session.specs.declared.Slot.{Slot}
-use denote.Struct.Field.{array_field, row_field}
+use denote.Struct.Field.{row_field}
 use Rattle.session.specs.contracts.Session.{the_row as session-row}
 use Rattle.session.specs.declared.Core.{Core}
 use Rattle.session.specs.contracts.Core.{the_row as core-row}
@@ -28,7 +26,7 @@ session_typed s vs h few some =
     let books = h.1.1.1.1.0.1.1 in
     let lists = books.1.0.1.1 in
     let info = h.1.1.1.1.1.0.1.1 in
-    let slots = subst (λ (ys : List Slot). Is (array_field (row_field slot-row) SLOTS).row ys _) (sym (map_same s.books.lists.slots)) lists.0 in
+    let slots = array_own slot-row SLOTS s.books.lists.slots _ lists.0 in
     record {
       task = task_typed s.work.task _ work.0;
       stage = stage_typed s.stage _ h.1.1.0;
