@@ -60,6 +60,7 @@ Mentions (fence i) ps = Unit {0}
 not_away : (h : ℕ) (ps : List Piece) → Named h ps → Away h ps → ⊥
 not_away h (p ∷ ps) (inl e) a = a.0 e
 not_away h (p ∷ ps) (inr e) a = not_away h ps e a.1
+not_away h [] x'' a = elim x'' [ ]
 
 module _ (base : ℕ → Option Hold) where
   still : (ps : List Piece) (k l : Host) → l ≡ k → Has base ps k → Has base ps l
@@ -140,6 +141,7 @@ module _ (base : ℕ → Option Hold) where
   named_new : (h : ℕ) (ps : List Piece) → Named h ps → Each (λ p. base p.handle ≡ none) ps → base h ≡ none
   named_new h (p ∷ ps) (inl e) z = ap base e ∙ z.0
   named_new h (p ∷ ps) (inr e) z = named_new h ps e z.1
+  named_new h [] x'' z = elim x'' [ ]
 
   -- given back
   given : (ps : List Piece) (k : Host) (h n : ℕ) → Named h ps → Has base ps k → Has base (without h ps) (hand_back k h n)

@@ -86,6 +86,7 @@ named_off l k a room h =
 in_pieces : (x : Buffer) (xs : List Buffer) → In x xs → Named x.handle (pieces xs)
 in_pieces x (y ∷ ys) (inl e) = inl (ap (λ (z : Buffer). z.handle) e)
 in_pieces x (y ∷ ys) (inr e) = inr (in_pieces x ys e)
+in_pieces x [] x'' = elim x'' [ ]
 
 -- THE SLOT IS AS THE QUESTION HAS IT: empty before pages are asked for, and with the handle that is named
 abbrev pub Has-handle : ℕ → Slot → Type 0

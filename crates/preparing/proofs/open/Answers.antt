@@ -1,0 +1,5 @@
+use borrow.Author.Rules.{rules}
+use Rattle.preparing.proofs.open.Goals as goal
+
+pub returns : goal.returns
+returns c = λ b. simp (c.new.ensures, c.start.ensures)
