@@ -93,6 +93,7 @@ ours_keep k l h d f g (a, x, q, s, n) = at (eqb a h) refl
 on_left : (ss us : List Spot) (d : ℕ) → On ss d → On (ss ++ us) d
 on_left (s ∷ ss) us d (inl z) = inl z
 on_left (s ∷ ss) us d (inr z) = inr (on_left ss us d z)
+on_left [] us d x' = elim x' [ ]
 
 -- what is behind a handle that is clear the card does not use
 clear_not : (w : World) (h : ℕ) (x : Hold) (d : ℕ) → Clear w h → w.host.hand h ≡ some x → On x.mapped d → MayUse w.card d → ⊥

@@ -36,6 +36,7 @@ pairwise_behind R (x ∷ xs) ys h = pairwise_behind R xs ys h.1
 each_in : {A : Type 0} (P : A → Type 0) (xs : List A) (a : A) → Each P xs → In a xs → P a
 each_in P (x ∷ xs) a h (inl e) = subst P (sym e) h.0
 each_in P (x ∷ xs) a h (inr e) = each_in P xs a h.1 e
+each_in {A = A} P [] a h x'' = elim x'' [ ]
 
 -- two slots that have buffers, the first before the second
 apart_in : (R : Buffer → Buffer → Type 0) (m i : ℕ) (l : List Slot) (k j : ℕ) → Pairwise R (named_from m i l) → i ≤ k → k < j → j < i + m → is_held (slot_at l k) ≡ true → is_held (slot_at l j) ≡ true
