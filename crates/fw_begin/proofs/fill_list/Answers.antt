@@ -1,0 +1,34 @@
+use mathlib.Core.Path.{refl, ap, sym, subst, ◌∙◌}
+use lib.Dec.{eqb}
+use lib.ListN.{length}
+use Rattle.dma.specs.PageList.{page_list, listed_of}
+use Rattle.session.specs.Core.{full}
+use Rattle.fw_plan.proofs.Steps.{listed_good, listed_short}
+use borrow.Author.Rules.{rules}
+use Rattle.fw_begin.proofs.fill_list.Goals as goal
+
+pub fill-requires : goal.fill-requires
+fill-requires c = search rules
+
+pub enum_known-y : goal.enum_known-y
+enum_known-y c = search rules
+
+pub lists-requires : goal.lists-requires
+lists-requires c = search rules
+
+pub enum_told-1 : goal.enum_told-1
+enum_told-1 c = search rules
+
+pub shape_of-inbox-in-Filled : goal.shape_of-inbox-in-Filled
+shape_of-inbox-in-Filled c = search rules
+
+pub returns-in-Filled : goal.returns-in-Filled
+returns-in-Filled c =
+    let p = c.args in record { with_slots = λ b e. c.lists.ensures b e ∙ listed_good (eqb (length p.inbox.now) 4096) (listed_of 63 256 p.c) _ (full p.s b) (ap page_list (sym c.in-Filled.is) ∙ c.fill.ensures.result_value); inbox_after = c.fill.ensures.inbox_after }
+
+pub shape_of-inbox-in-Short : goal.shape_of-inbox-in-Short
+shape_of-inbox-in-Short c = search rules
+
+pub returns-in-Short : goal.returns-in-Short
+returns-in-Short c =
+    let p = c.args in record { with_slots = λ b e. listed_short (eqb (length p.inbox.now) 4096) (listed_of 63 256 p.c) (full p.s b) (ap page_list (sym c.in-Short.is) ∙ c.fill.ensures.result_value); inbox_after = c.fill.ensures.inbox_after }
