@@ -7,6 +7,8 @@ use std::process::{self, Command};
 const ROOT: &str = "../..";
 const LIBRARY: &str = "linkage";
 const VARIABLE: &str = "HCA_LIBRARY";
+/// SSE2 and no more: the library is for firmware too.
+const CPU: &str = "x86-64";
 
 fn main() {
     println!("cargo:rerun-if-env-changed={VARIABLE}");
@@ -23,7 +25,7 @@ fn proved() -> PathBuf {
     let root = package.join(ROOT).canonicalize().expect("the repository's root");
     watch(&root);
     let krate = root.join("crates").join(LIBRARY);
-    match Command::new("rt").arg("lib").current_dir(&krate).output() {
+    match Command::new("rt").args(["lib", "--cpu", CPU]).current_dir(&krate).output() {
         Ok(out) if out.status.success() => krate.join("out"),
         Ok(out) => stop(&format!("rt lib in {}: {}", krate.display(), said(&out))),
         Err(e) => stop(&format!("the Rattle kit's command 'rt' does not run: {e}")),

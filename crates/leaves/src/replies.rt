@@ -1,7 +1,7 @@
 // The card's replies: document 01's number, the value beside it, then the fields.
 ghost use Rattle.std.specs.Prelude.{◌≡◌, ◌&&◌};
 ghost use Rattle.fields.specs.Outcome.{value_or, number_of};
-ghost use Rattle.reply.specs.Capability.{capability_of, no_caps, bit as bitIn};
+ghost use Rattle.reply.specs.Capability.{capability_of, no_caps, bit as bit_in};
 ghost use Rattle.reply.specs.Replies.{query_fw_of, fw_held, query_port_of, no_port, query_func_of};
 ghost use Rattle.answers.specs.Words.{said, answer};
 ghost use Rattle.answers.specs.Replies.{size_from, code_of, cap_words, fw_words, port_words, func_words};
@@ -33,13 +33,13 @@ fn caps_with(flags: u64) -> DevCap
 
 // Whether flags have the capability of this number, and whether they have both for B0 steering.
 pub fn leaf_flag(flags: u64, number: u8) -> bool
-    ensures { result ≡ bitIn number flags }
+    ensures { result ≡ bit_in number flags }
 {
     caps_with(flags).flag(number)
 }
 
 pub fn leaf_b0(flags: u64) -> bool
-    ensures { result ≡ bitIn 41 flags && bitIn 42 flags }
+    ensures { result ≡ bit_in 41 flags && bit_in 42 flags }
 {
     caps_with(flags).b0()
 }
