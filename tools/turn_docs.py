@@ -64,17 +64,24 @@ def turn():
     print(len(of), "names have another spelling;", count, "lines turned")
 
 
+def is_function(path):
+    """Whether the path is proofs/FN of a function, which has a folder only where it has files of its own."""
+    m = re.fullmatch(r"(crates/\w+)/proofs/(?:[\w+]+/)*\+?(\w+)", path)
+    sources = glob.glob(f"{m[1]}/src/**/*.rt", recursive=True) if m else []
+    return any(re.search(rf"\bfn {m[2]}\b", open(it, encoding="utf-8").read()) for it in sources)
+
+
 def check():
     bad = 0
     for path, text in documents():
         for number, line in enumerate(text.split("\n"), 1):
             for quoted in QUOTED.findall(line):
                 m = re.fullmatch(r"`(?:crates/)?(\w+/(?:specs|proofs|src|must-fail)(?:/[\w+.-]+)*)(?:: (.*))?`", quoted)
-                if not m:
+                if not m or "/NAME/" in quoted:
                     continue
                 file, names = f"crates/{m[1]}", m[2] or ""
                 lacking = []
-                if not os.path.exists(file) and not glob.glob(file + ".*"):
+                if not os.path.exists(file) and not glob.glob(file + ".*") and not is_function(file):
                     lacking = ["no such file"]
                 elif file.endswith(".antt"):
                     has = set(re.findall(PART, open(file, encoding="utf-8").read()))
