@@ -3,6 +3,7 @@
 
 usage: tools/turn_docs.py           at the top of the repository: rewrites what stands between backticks in README.md, docs/ and include/
        tools/turn_docs.py --check   writes nothing: lists each `FILE.antt: NAME`, and each path of a crate, that the repository has not
+       tools/turn_docs.py --words   writes nothing: lists each word between backticks that no file but a document has (some are right: options, commands)
 
 The names before and after come from the commits in docs/PORT.md (its first two lines): what a file of specs/ or proofs/
 declares at the first one, and in the same place at the second.
@@ -93,4 +94,21 @@ def check():
     return 1 if bad else 0
 
 
+def words():
+    listed = subprocess.run(["git", "ls-files"], stdout=subprocess.PIPE, check=True, universal_newlines=True).stdout.split("\n")
+    has = set()
+    for path in filter(os.path.isfile, listed):
+        if not path.endswith(".md"):
+            text = open(path, encoding="utf-8", errors="replace").read()
+            has |= {*re.findall(r"[\w']+", text), *re.findall(r"[\w'-]+", text), *re.split(r"[/.]", path)}
+    for path, text in documents():
+        for number, line in enumerate(text.split("\n"), 1):
+            for quoted in QUOTED.findall(line):
+                for it in re.findall(r"(?<![\w-])[A-Za-z_][\w']*(?:-[\w']+)*", quoted):
+                    if it not in has:
+                        print(f"{path}:{number}: {quoted}: {it}")
+
+
+if "--words" in sys.argv:
+    sys.exit(words())
 sys.exit(check() if "--check" in sys.argv else turn())
