@@ -11,8 +11,7 @@ ghost use Rattle.answers.specs.Bars.{next_words, begun_words, choice_in};
 
 use answers::words;
 
-#[unsafe(no_mangle)]
-pub extern "C" fn leaf_base(
+pub fn leaf_base(
     d0: u32,
     d1: u32,
     d2: u32,
@@ -29,8 +28,7 @@ pub extern "C" fn leaf_base(
     words::give(out, &w)
 }
 
-#[unsafe(no_mangle)]
-pub extern "C" fn leaf_candidates(
+pub fn leaf_candidates(
     d0: u32,
     d1: u32,
     d2: u32,
@@ -47,8 +45,7 @@ pub extern "C" fn leaf_candidates(
     words::give(out, &w)
 }
 
-#[unsafe(no_mangle)]
-pub extern "C" fn leaf_resource(bytes: &[u8], out: &mut [u8]) -> u32
+pub fn leaf_resource(bytes: &[u8], out: &mut [u8]) -> u32
     ensures value { result ≡ said 3 out.old }
     ensures out_after { out.new ≡ answer 3 out.old (list_words (resource_at bytes.now)) }
 {
@@ -56,8 +53,7 @@ pub extern "C" fn leaf_resource(bytes: &[u8], out: &mut [u8]) -> u32
     words::give(out, &w)
 }
 
-#[unsafe(no_mangle)]
-pub extern "C" fn leaf_choose(
+pub fn leaf_choose(
     d0: u32,
     d1: u32,
     d2: u32,
@@ -75,14 +71,7 @@ pub extern "C" fn leaf_choose(
 }
 
 // The answer to the question that an earlier answer's words asked.
-#[unsafe(no_mangle)]
-pub extern "C" fn leaf_choose_step(
-    state: &[u8],
-    known: bool,
-    base: u64,
-    length: u64,
-    out: &mut [u8],
-) -> u32
+pub fn leaf_choose_step(state: &[u8], known: bool, base: u64, length: u64, out: &mut [u8]) -> u32
     ensures value { result ≡ pick (holds 16 state.now) (said 16 out.old) 21 }
     ensures out_after { out.new ≡ pick (holds 16 state.now) (answer 16 out.old (next_words (step_of (choice_in state.now) (range_from known base length)))) out.old }
 {

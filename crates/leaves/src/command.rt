@@ -7,44 +7,38 @@ ghost use Rattle.answers.specs.Command.{post_of, writes_words};
 use answers::words;
 use hcr::Post;
 
-#[unsafe(no_mangle)]
-pub extern "C" fn leaf_pending(status: u32, toggle: bool) -> bool
+pub fn leaf_pending(status: u32, toggle: bool) -> bool
     ensures { result ≡ pending_in status toggle }
 {
     hcr::pending(status, toggle)
 }
 
-#[unsafe(no_mangle)]
-pub extern "C" fn leaf_status(dword: u32) -> u8
+pub fn leaf_status(dword: u32) -> u8
     ensures { result ≡ status_in dword }
 {
     hcr::status(dword)
 }
 
-#[unsafe(no_mangle)]
-pub extern "C" fn leaf_first_toggle(status: u32) -> bool
+pub fn leaf_first_toggle(status: u32) -> bool
     ensures { result ≡ first_toggle status }
 {
     hcr::first_toggle(status)
 }
 
-#[unsafe(no_mangle)]
-pub extern "C" fn leaf_go_word(toggle: bool, modifier: u8, op: u16) -> u32
+pub fn leaf_go_word(toggle: bool, modifier: u8, op: u16) -> u32
     ensures { result ≡ go_word toggle modifier op }
 {
     hcr::go_word(toggle, modifier, op)
 }
 
-#[unsafe(no_mangle)]
-pub extern "C" fn leaf_swap(x: u32) -> u32
+pub fn leaf_swap(x: u32) -> u32
     ensures { result ≡ swap_of x }
 {
     hcr::swap(x)
 }
 
 // The seven writes that post a command, each as its offset and its value on the bus.
-#[unsafe(no_mangle)]
-pub extern "C" fn leaf_writes(
+pub fn leaf_writes(
     toggle: bool,
     op: u16,
     op_mod: u8,
@@ -69,22 +63,19 @@ pub extern "C" fn leaf_writes(
     words::give(out, &w)
 }
 
-#[unsafe(no_mangle)]
-pub extern "C" fn leaf_stall(n: u32) -> u32
+pub fn leaf_stall(n: u32) -> u32
     ensures { result ≡ stall_of n }
 {
     hcr::stall(n)
 }
 
-#[unsafe(no_mangle)]
-pub extern "C" fn leaf_waited(n: u32) -> u64
+pub fn leaf_waited(n: u32) -> u64
     ensures { result ≡ waited_of n }
 {
     hcr::waited(n)
 }
 
-#[unsafe(no_mangle)]
-pub extern "C" fn leaf_reserved(op: u16) -> bool
+pub fn leaf_reserved(op: u16) -> bool
     ensures { result ≡ is_reserved op }
 {
     hcr::reserved(op)

@@ -8,14 +8,7 @@ ghost use Rattle.answers.specs.Fields.{order_of};
 
 use answers::words;
 
-#[unsafe(no_mangle)]
-pub extern "C" fn leaf_field(
-    s: &[u8],
-    little: bool,
-    off: usize,
-    width: usize,
-    out: &mut [u8],
-) -> u32
+pub fn leaf_field(s: &[u8], little: bool, off: usize, width: usize, out: &mut [u8]) -> u32
     ensures value { result ≡ said 2 out.old }
     ensures out_after { out.new ≡ answer 2 out.old (number_words (pick (leb width 8) (field_at (order_of little) s.now off width) (refused 21 []))) }
 {
@@ -23,8 +16,7 @@ pub extern "C" fn leaf_field(
     words::give(out, &w)
 }
 
-#[unsafe(no_mangle)]
-pub extern "C" fn leaf_byte(s: &[u8], off: usize, out: &mut [u8]) -> u32
+pub fn leaf_byte(s: &[u8], off: usize, out: &mut [u8]) -> u32
     ensures value { result ≡ said 2 out.old }
     ensures out_after { out.new ≡ answer 2 out.old (number_words (field_at Big s.now off 1)) }
 {
@@ -32,8 +24,7 @@ pub extern "C" fn leaf_byte(s: &[u8], off: usize, out: &mut [u8]) -> u32
     words::give(out, &w)
 }
 
-#[unsafe(no_mangle)]
-pub extern "C" fn leaf_be16(s: &[u8], off: usize, out: &mut [u8]) -> u32
+pub fn leaf_be16(s: &[u8], off: usize, out: &mut [u8]) -> u32
     ensures value { result ≡ said 2 out.old }
     ensures out_after { out.new ≡ answer 2 out.old (number_words (field_at Big s.now off 2)) }
 {
@@ -41,8 +32,7 @@ pub extern "C" fn leaf_be16(s: &[u8], off: usize, out: &mut [u8]) -> u32
     words::give(out, &w)
 }
 
-#[unsafe(no_mangle)]
-pub extern "C" fn leaf_be32(s: &[u8], off: usize, out: &mut [u8]) -> u32
+pub fn leaf_be32(s: &[u8], off: usize, out: &mut [u8]) -> u32
     ensures value { result ≡ said 2 out.old }
     ensures out_after { out.new ≡ answer 2 out.old (number_words (field_at Big s.now off 4)) }
 {
@@ -50,8 +40,7 @@ pub extern "C" fn leaf_be32(s: &[u8], off: usize, out: &mut [u8]) -> u32
     words::give(out, &w)
 }
 
-#[unsafe(no_mangle)]
-pub extern "C" fn leaf_be64(s: &[u8], off: usize, out: &mut [u8]) -> u32
+pub fn leaf_be64(s: &[u8], off: usize, out: &mut [u8]) -> u32
     ensures value { result ≡ said 2 out.old }
     ensures out_after { out.new ≡ answer 2 out.old (number_words (field_at Big s.now off 8)) }
 {
@@ -59,8 +48,7 @@ pub extern "C" fn leaf_be64(s: &[u8], off: usize, out: &mut [u8]) -> u32
     words::give(out, &w)
 }
 
-#[unsafe(no_mangle)]
-pub extern "C" fn leaf_le16(s: &[u8], off: usize, out: &mut [u8]) -> u32
+pub fn leaf_le16(s: &[u8], off: usize, out: &mut [u8]) -> u32
     ensures value { result ≡ said 2 out.old }
     ensures out_after { out.new ≡ answer 2 out.old (number_words (field_at Little s.now off 2)) }
 {
@@ -68,8 +56,7 @@ pub extern "C" fn leaf_le16(s: &[u8], off: usize, out: &mut [u8]) -> u32
     words::give(out, &w)
 }
 
-#[unsafe(no_mangle)]
-pub extern "C" fn leaf_le64(s: &[u8], off: usize, out: &mut [u8]) -> u32
+pub fn leaf_le64(s: &[u8], off: usize, out: &mut [u8]) -> u32
     ensures value { result ≡ said 2 out.old }
     ensures out_after { out.new ≡ answer 2 out.old (number_words (field_at Little s.now off 8)) }
 {
@@ -77,70 +64,56 @@ pub extern "C" fn leaf_le64(s: &[u8], off: usize, out: &mut [u8]) -> u32
     words::give(out, &w)
 }
 
-#[unsafe(no_mangle)]
-pub extern "C" fn leaf_set_field(
-    s: &mut [u8],
-    little: bool,
-    off: usize,
-    width: usize,
-    v: u64,
-) -> u32
+pub fn leaf_set_field(s: &mut [u8], little: bool, off: usize, width: usize, v: u64) -> u32
     ensures value { result ≡ number_of (write_at s.old off width) }
     ensures s_after { s.new ≡ written_at (order_of little) s.old off width v }
 {
     answers::field::done(fields::set_field(s, answers::field::order(little), off, width, v))
 }
 
-#[unsafe(no_mangle)]
-pub extern "C" fn leaf_set_byte(s: &mut [u8], off: usize, v: u8) -> u32
+pub fn leaf_set_byte(s: &mut [u8], off: usize, v: u8) -> u32
     ensures value { result ≡ number_of (write_at s.old off 1) }
     ensures s_after { s.new ≡ written_at Big s.old off 1 v }
 {
     answers::field::done(fields::set_byte(s, off, v))
 }
 
-#[unsafe(no_mangle)]
-pub extern "C" fn leaf_set_be16(s: &mut [u8], off: usize, v: u16) -> u32
+pub fn leaf_set_be16(s: &mut [u8], off: usize, v: u16) -> u32
     ensures value { result ≡ number_of (write_at s.old off 2) }
     ensures s_after { s.new ≡ written_at Big s.old off 2 v }
 {
     answers::field::done(fields::set_be16(s, off, v))
 }
 
-#[unsafe(no_mangle)]
-pub extern "C" fn leaf_set_be32(s: &mut [u8], off: usize, v: u32) -> u32
+pub fn leaf_set_be32(s: &mut [u8], off: usize, v: u32) -> u32
     ensures value { result ≡ number_of (write_at s.old off 4) }
     ensures s_after { s.new ≡ written_at Big s.old off 4 v }
 {
     answers::field::done(fields::set_be32(s, off, v))
 }
 
-#[unsafe(no_mangle)]
-pub extern "C" fn leaf_set_be64(s: &mut [u8], off: usize, v: u64) -> u32
+pub fn leaf_set_be64(s: &mut [u8], off: usize, v: u64) -> u32
     ensures value { result ≡ number_of (write_at s.old off 8) }
     ensures s_after { s.new ≡ written_at Big s.old off 8 v }
 {
     answers::field::done(fields::set_be64(s, off, v))
 }
 
-#[unsafe(no_mangle)]
-pub extern "C" fn leaf_set_le16(s: &mut [u8], off: usize, v: u16) -> u32
+pub fn leaf_set_le16(s: &mut [u8], off: usize, v: u16) -> u32
     ensures value { result ≡ number_of (write_at s.old off 2) }
     ensures s_after { s.new ≡ written_at Little s.old off 2 v }
 {
     answers::field::done(fields::set_le16(s, off, v))
 }
 
-#[unsafe(no_mangle)]
-pub extern "C" fn leaf_set_le64(s: &mut [u8], off: usize, v: u64) -> u32
+pub fn leaf_set_le64(s: &mut [u8], off: usize, v: u64) -> u32
     ensures value { result ≡ number_of (write_at s.old off 8) }
     ensures s_after { s.new ≡ written_at Little s.old off 8 v }
 {
     answers::field::done(fields::set_le64(s, off, v))
 }
 
-#[unsafe(no_mangle)]
-pub extern "C" fn leaf_zero(s: &mut [u8])
+pub fn leaf_zero(s: &mut [u8])
     ensures { s.new ≡ replicate (length s.old) 0 }
 {
     fields::zero(s);

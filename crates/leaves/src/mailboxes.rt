@@ -10,8 +10,7 @@ ghost use Rattle.answers.specs.Tables.{layout_for};
 use answers::{field, replies, tables};
 
 // INIT_HCA for a capability reply, with the UAR BAR's size known or not. A reply that is refused counts as one with no capabilities and no tables.
-#[unsafe(no_mangle)]
-pub extern "C" fn leaf_init_hca(reply: &[u8], known: bool, bar: u64, inbox: &mut [u8]) -> u32
+pub fn leaf_init_hca(reply: &[u8], known: bool, bar: u64, inbox: &mut [u8]) -> u32
     ensures value { result ≡ number_of (fill_of inbox.old) }
     ensures inbox_after { inbox.new ≡ filled_by inbox.old (fields_of (init_of (value_or no_caps (capability_of reply.now (size_from known bar))) (value_or no_layout (layout_for (capability_of reply.now (size_from known bar)))).rows)) }
 {
@@ -22,8 +21,7 @@ pub extern "C" fn leaf_init_hca(reply: &[u8], known: bool, bar: u64, inbox: &mut
     field::done(init::fill(inbox, init::init_hca(c.cap, rows)))
 }
 
-#[unsafe(no_mangle)]
-pub extern "C" fn leaf_mod_stat_cfg(inbox: &mut [u8]) -> u32
+pub fn leaf_mod_stat_cfg(inbox: &mut [u8]) -> u32
     ensures value { result ≡ number_of (fill_of inbox.old) }
     ensures inbox_after { inbox.new ≡ filled_by inbox.old mod_stat_cfg }
 {

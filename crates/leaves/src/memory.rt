@@ -9,8 +9,7 @@ ghost use Rattle.answers.specs.Memory.{virt_from, cutter_from, started_words, pi
 
 use answers::words;
 
-#[unsafe(no_mangle)]
-pub extern "C" fn leaf_pages_of(bytes: u64, out: &mut [u8]) -> u32
+pub fn leaf_pages_of(bytes: u64, out: &mut [u8]) -> u32
     ensures value { result ≡ said 2 out.old }
     ensures out_after { out.new ≡ answer 2 out.old (number_words (pages_for bytes)) }
 {
@@ -18,16 +17,14 @@ pub extern "C" fn leaf_pages_of(bytes: u64, out: &mut [u8]) -> u32
     words::give(out, &w)
 }
 
-#[unsafe(no_mangle)]
-pub extern "C" fn leaf_accept(dev: u64, pages: u64) -> u32
+pub fn leaf_accept(dev: u64, pages: u64) -> u32
     ensures { result ≡ number_of (accept_at dev pages) }
 {
     answers::memory::accepted_number(dma::accept(dev, pages))
 }
 
 // A range, with a card address or none, ready to be cut.
-#[unsafe(no_mangle)]
-pub extern "C" fn leaf_blocks(has: bool, virt: u64, phys: u64, size: u64, out: &mut [u8]) -> u32
+pub fn leaf_blocks(has: bool, virt: u64, phys: u64, size: u64, out: &mut [u8]) -> u32
     ensures value { result ≡ said 5 out.old }
     ensures out_after { out.new ≡ answer 5 out.old (started_words (start_at (virt_from has virt) phys size)) }
 {
@@ -40,15 +37,7 @@ pub extern "C" fn leaf_blocks(has: bool, virt: u64, phys: u64, size: u64, out: &
 }
 
 // The next block of what is left of a range.
-#[unsafe(no_mangle)]
-pub extern "C" fn leaf_cut(
-    largest: u32,
-    has: bool,
-    virt: u64,
-    phys: u64,
-    left: u64,
-    out: &mut [u8],
-) -> u32
+pub fn leaf_cut(largest: u32, has: bool, virt: u64, phys: u64, left: u64, out: &mut [u8]) -> u32
     ensures value { result ≡ said 8 out.old }
     ensures out_after { out.new ≡ answer 8 out.old (piece_words (cut_of largest (cutter_from has virt phys left))) }
 {
@@ -60,8 +49,7 @@ pub extern "C" fn leaf_cut(
 }
 
 // Fills a mailbox with the page list of what is left of a range.
-#[unsafe(no_mangle)]
-pub extern "C" fn leaf_fill(
+pub fn leaf_fill(
     inbox: &mut [u8],
     largest: u32,
     has: bool,

@@ -10,15 +10,13 @@ ghost use Rattle.answers.specs.Tables.{layout_words};
 use answers::{replies, words};
 
 // The least power of two that is at least x, and the exponent of one.
-#[unsafe(no_mangle)]
-pub extern "C" fn leaf_pow2(x: u64) -> u64
+pub fn leaf_pow2(x: u64) -> u64
     ensures { result ≡ pow2_of x }
 {
     layout::pow2(x)
 }
 
-#[unsafe(no_mangle)]
-pub extern "C" fn leaf_log2(x: u64) -> u32
+pub fn leaf_log2(x: u64) -> u32
     ensures { result ≡ count_trailing_zeros 64 x }
 {
     layout::log2(x)
@@ -28,8 +26,7 @@ const WORDS: usize = 89;
 
 // The layout for a capability reply, with the UAR BAR's size known or not: the refusal's number and value, the total, the first special QP, the first
 // free MTT entry, the tables, the ranges and the comparisons.
-#[unsafe(no_mangle)]
-pub extern "C" fn leaf_layout(reply: &[u8], known: bool, bar: u64, out: &mut [u8]) -> u32
+pub fn leaf_layout(reply: &[u8], known: bool, bar: u64, out: &mut [u8]) -> u32
     ensures value { result ≡ said 89 out.old }
     ensures out_after { out.new ≡ answer 89 out.old (layout_words (capability_of reply.now (size_from known bar))) }
 {

@@ -1,17 +1,20 @@
 //! What the programs of this package share: their arguments, what they print, how they end.
 
 use std::fmt::Display;
+use std::fs::File;
 use std::path::{Path, PathBuf};
-use std::process::{Command, ExitCode};
+use std::process::{Command, ExitCode, Stdio};
 
 const ROOT: &str = concat!(env!("CARGO_MANIFEST_DIR"), "/../..");
 
-/// A program of the repository, proved and built.
+/// A program of the repository, proved and built. It is run on its stored input, which ends well.
 pub fn proved(name: &str) -> PathBuf {
-    let out = Command::new("rt").args(["check", name]).current_dir(ROOT).output();
+    let krate = Path::new(ROOT).join("crates").join(name);
+    let stdin = File::open(krate.join("stdin")).map_or_else(|_| Stdio::null(), Stdio::from);
+    let out = Command::new("rt").arg("run").current_dir(&krate).stdin(stdin).output();
     let out = out.expect("the Rattle kit's command 'rt'");
-    assert!(out.status.success(), "rt check {name}: {}", String::from_utf8_lossy(&out.stderr));
-    Path::new(ROOT).join("target/bin").join(name)
+    assert!(out.status.success(), "rt run in crates/{name}: {}", String::from_utf8_lossy(&out.stderr));
+    krate.join("out").join(name)
 }
 
 /// The numbers that the command line begins with, the usual ones where they are left out, and the words behind them.

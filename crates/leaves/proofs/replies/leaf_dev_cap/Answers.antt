@@ -1,5 +1,4 @@
 use mathlib.Core.Path.{refl, ap, ap₂, ◌∙◌}
-use borrow.Author.Rules.{rules}
 use Rattle.fields.specs.Outcome.{value_or}
 use Rattle.bars.specs.declared.Size.{Size}
 use Rattle.reply.specs.Capability.{capability_of, no_caps}
@@ -8,6 +7,9 @@ use Rattle.answers.proofs.Codes.{code_cap}
 use Rattle.answers.proofs.Laws.{gave}
 use Rattle.leaves.proofs.replies.leaf_dev_cap.Goals as goal
 
-pub returns : goal.returns
-returns c = let p = c.args in let r = c.dev_cap.result in
-    let parts = gave 34 p.out.now (c.cap_words-w.ensures ∙ ap₂ cap_words (code_cap r.check r.cap ∙ ap code_of c.dev_cap.ensures.said) c.dev_cap.ensures.held ∙ ap (λ (b : Size). cap_words (code_of (capability_of p.reply.now b)) (value_or no_caps (capability_of p.reply.now b))) c.size_from.ensures) (refl) c.give.ensures.value c.give.ensures.out_after in record { value = parts.0; out_after = parts.1 }
+pub returns-clause-out_after : goal.returns-clause-out_after
+returns-clause-out_after c = let p = c.args in let r = c.dev_cap.result in
+    let words = c.cap_words-w.ensures
+    ∙ ap₂ cap_words (code_cap r.check r.cap ∙ ap code_of c.dev_cap.ensures.said) c.dev_cap.ensures.held
+    ∙ ap (λ (b : Size). cap_words (code_of (capability_of p.reply.now b)) (value_or no_caps (capability_of p.reply.now b))) c.size_from.ensures in
+    (gave 34 p.out.now words refl c.give.ensures.value c.give.ensures.out_after).1

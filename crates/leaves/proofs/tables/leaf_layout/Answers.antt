@@ -1,9 +1,7 @@
 use Prim.Native.Nat.{ℕ}
-use mathlib.Core.Path.{◌≡◌, refl, ap, ◌∙◌}
+use mathlib.Core.Path.{◌≡◌, ap, ◌∙◌}
 use mathlib.Core.List.{List, [], ◌∷◌}
-use borrow.Author.Rules.{rules}
-use borrow.Author.Tests.{lt-leb, le-leb}
-use lib.ListN.{length}
+use borrow.Author.Tests.{le-leb}
 use Rattle.fields.specs.Outcome.{Outcome, value_or}
 use Rattle.bars.specs.declared.Size.{Size}
 use Rattle.reply.specs.Capability.{capability, capability_of, no_caps}
@@ -18,14 +16,10 @@ use Rattle.answers.proofs.Laws.{passed}
 use Rattle.answers.proofs.Rows.{whole, put_whole}
 use Rattle.leaves.proofs.tables.leaf_layout.Goals as goal
 
-pub returns-then-out : goal.returns-then-out
-returns-then-out c = let no' = lt-leb _ _ c.if-out.true in record { value = rw no'; out_after = rw no' }
-
-pub returns : goal.returns
-returns c =
+pub returns-clause-out_after : goal.returns-clause-out_after
+returns-clause-out_after c =
     let p = c.args in
     let s = p.reply.now in
-    let ok = le-leb _ _ c.if-out.false in
     let j = c.judge-j.result in
     let l = j.layout in
     let a = c.base_sqpn.result in
@@ -44,4 +38,4 @@ returns c =
     ap (λ (x : Judged). whole x a b) judged
     ∙ ap (λ (x : ℕ). whole (judged_of (code_of (layout_for o)) (value_or no_layout (layout_for o))) x b) (c.base_sqpn.ensures.0 ∙ ap base_sqpn held)
     ∙ ap (λ (x : ℕ). whole (judged_of (code_of (layout_for o)) (value_or no_layout (layout_for o))) (base_sqpn (value_or no_caps o)) x) (c.first_free_mtt.ensures.0 ∙ ap first_free_mtt held) in
-    record { value = passed 21 ok refl; out_after = passed p.out.now ok (wrote ∙ ap (put_words p.out.now 0) words) }
+    passed p.out.now (le-leb _ _ c.if-out.false) (wrote ∙ ap (put_words p.out.now 0) words)

@@ -1,7 +1,0 @@
-use mathlib.Core.Path.{ap, ◌∙◌}
-use borrow.Author.Rules.{rules}
-use Rattle.fields.specs.Outcome.{number_of}
-use Rattle.leaves.proofs.field.leaf_set_be64.Goals as goal
-
-pub returns : goal.returns
-returns c = record { value = c.done.ensures ∙ ap number_of c.set_be64.ensures.result_value; s_after = c.set_be64.ensures.s_after }
