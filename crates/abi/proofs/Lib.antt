@@ -2,6 +2,7 @@ pub mod Calls
 pub mod Kept
 pub mod Left
 pub mod Numbers
+pub mod Onward
 pub mod Poll
 pub mod Polled
 pub mod Readers

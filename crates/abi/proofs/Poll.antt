@@ -49,27 +49,14 @@ use Rattle.in_place.specs.declared.Next.TheVariants as n
 use Rattle.abi.specs.Turns.{After, after, answer_known, answered}
 use Rattle.abi.specs.Calls.{onward_by, answer}
 use Rattle.abi.proofs.Calls.{not_so}
+use Rattle.abi.proofs.Onward.{on_to}
 use Rattle.abi.proofs.Turns.{head_known}
 
 -- the task's words, where there are so many bytes
 abbrev pub put_hot : List ℕ → Task → List ℕ
 put_hot s k = put_words s 0 (task_words k)
 
--- THE COMMAND THAT GOES ON, by what comes next
-abbrev pub on_to : Cmd → Next → Cmd
-on_to c (n.Write i) = in_phase c (ph.Writing i)
-on_to c n.Fence = in_phase c ph.Fence
-on_to c n.Go = in_phase c ph.Go
-on_to c (n.Posted g) = posted c
-on_to c (n.Stall us) = in_phase c ph.Wait
-on_to c (n.Read m) = stalled_by c m
-on_to c n.Fenced = in_phase c ph.Fenced
-on_to c n.Status = in_phase c ph.Status
-on_to c n.High = in_phase c ph.High
-on_to c (n.Low v) = in_phase c (ph.Low v)
-on_to c n.Other = c
-
--- the values that come with it are those of the command
+-- the values that come with the command that goes on are the command's
 abbrev pub Known : Cmd → Next → Type 0
 Known c (n.Write i) = i < 2 ^ 8
 Known c n.Fence = Unit {0}

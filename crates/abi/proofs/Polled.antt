@@ -33,7 +33,8 @@ use Rattle.in_place.specs.declared.Next.{Next}
 use Rattle.in_place.specs.declared.Next.TheVariants as n
 use Rattle.abi.specs.Kept.{answer_next, known_next, heard_next, Keeps, Holds}
 use Rattle.abi.proofs.Calls.{not_so, none, Onward}
-use Rattle.abi.proofs.Poll.{on_to, Known, Ready, Goes, no_deal, put_hot, task_cmd, on}
+use Rattle.abi.proofs.Onward.{on_to}
+use Rattle.abi.proofs.Poll.{Known, Ready, Goes, no_deal, put_hot, task_cmd, on}
 
 -- THE COMMAND THAT WAS READ: its numbers are below the bounds of their widths, since its words were cut to them
 record Small (c : Cmd) : Type 0 where
