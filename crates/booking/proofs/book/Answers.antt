@@ -17,10 +17,13 @@ returns-then-is_deal c =
     let m = p.m.now in
     let x = full p.s (behind_in m) in
     let e = sym c.is_deal.ensures ∙ c.if-is_deal.true in
-    let w = c.wants-place.ensures p.s in record { m_after = c.put_at.ensures.m_after
+    let w = c.wants-place.ensures p.s in record {
+      m_after = c.put_at.ensures.m_after
           ∙ (ap (λ (y : Place). put_at y p.q p.a m) w
           ∙ (left_in_lem (wants x) p.q p.a x.books m (slots_length m)
-          ∙ sym (ap (λ (t : Bool). pick t (left_at (wants x) (booked_by (wants x) p.q p.a x.books) m) m) e))); rewrites = book_rewrites m _ p.s p.q p.a _ w c.put_at.ensures.rewrites }
+          ∙ sym (ap (λ (t : Bool). pick t (left_at (wants x) (booked_by (wants x) p.q p.a x.books) m) m) e)));
+      rewrites = book_rewrites m _ p.s p.q p.a _ w c.put_at.ensures.rewrites;
+    }
 
 pub returns-else-is_deal : goal.returns-else-is_deal
 returns-else-is_deal c =

@@ -45,8 +45,11 @@ returns-in-Nothing c =
     let b = behind_in s in
     let x = full a.s b in
     let free = sym (c.barred-why.ensures b) ∙ c.in-Nothing.is in
-    record { out_after = whole refl c.begin-said.ensures.m_after c.begin-said.ensures.inbox_after c.begin-said.ensures.outbox_after (c.put_turn.ensures ∙ ap (λ (z : Said). turn_in a.out.now z.question z.undo) c.begin-said.ensures.value)
-          ∙ good_admitted x a.call a.input.now a.top s a.inbox.now a.outbox.now a.out.now free; keeps = good_keeps x a.call a.input.now a.top s a.inbox.now a.outbox.now a.out.now _ free c.begin-said.ensures.keeps }
+    record {
+      out_after = whole refl c.begin-said.ensures.m_after c.begin-said.ensures.inbox_after c.begin-said.ensures.outbox_after (c.put_turn.ensures ∙ ap (λ (z : Said). turn_in a.out.now z.question z.undo) c.begin-said.ensures.value)
+          ∙ good_admitted x a.call a.input.now a.top s a.inbox.now a.outbox.now a.out.now free;
+      keeps = good_keeps x a.call a.input.now a.top s a.inbox.now a.outbox.now a.out.now _ free c.begin-said.ensures.keeps;
+    }
 
 pub returns-in-By : goal.returns-in-By
 returns-in-By c =

@@ -10,8 +10,11 @@ pub returns : goal.returns
 returns c = let a = c.args in
     let same = c.if-inbox-ne-BYTES.false in
     let ok = eq-eqb (length a.inbox.now) 4096 same in
-    let n = c.room-n.result in record { result_value = rw ok (ap value (c.list_blocks.ensures.value ∙ ap (λ (k : ℕ). listed_of a.largest k a.c) c.room-n.ensures)); inbox_after = rw ok (
+    let n = c.room-n.result in record {
+      result_value = rw ok (ap value (c.list_blocks.ensures.value ∙ ap (λ (k : ℕ). listed_of a.largest k a.c) c.room-n.ensures));
+      inbox_after = rw ok (
           c.list_blocks.ensures.inbox_after
           ∙ ap (λ (x : List ℕ). list_at x 0 (first_blocks a.largest n a.c)) (c.zero.ensures ∙ ap (λ (k : ℕ). replicate k 0) same)
           ∙ ap (λ (k : ℕ). mailbox_of (first_blocks a.largest k a.c)) c.room-n.ensures
-          ) }
+          );
+    }

@@ -27,5 +27,9 @@ returns c =
     let p = c.args in
     let k = p.c.task in
     let begun = c.begin.ensures in
-    let exit = c.put_head.ensures ∙ ap (put_head p.c) begun in record { value = c.asks-question.ensures ∙ ap (λ (xs : List ℕ). work_asks (work_in k xs)) begun
-          ∙ ap (λ (y : Behind). work_asks (working k y.reset y.find)) (begun_reads p.c.stage k p.m.now); m_after = exit; writes = headed p.c p.m.now _ (core_typed p.c _ c.well_formed.0) exit }
+    let exit = c.put_head.ensures ∙ ap (put_head p.c) begun in record {
+      value = c.asks-question.ensures ∙ ap (λ (xs : List ℕ). work_asks (work_in k xs)) begun
+          ∙ ap (λ (y : Behind). work_asks (working k y.reset y.find)) (begun_reads p.c.stage k p.m.now);
+      m_after = exit;
+      writes = headed p.c p.m.now _ (core_typed p.c _ c.well_formed.0) exit;
+    }

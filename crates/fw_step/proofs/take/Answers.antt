@@ -34,5 +34,9 @@ returns c =
     let k = p.s.task in
     let l = p.resource.now in
     let asked = c.asks-question.ensures in
-    let kept = work_kept p.s c.asks-question.result p.a l xs _ asked c.book.ensures.m_after c.book.ensures.rewrites in record { value = took_is x p.a l c.step-going.result c.wipe_of.result (c.step-going.ensures.value ∙ ap (λ (w : Work). going_of (work_step_of w p.a l)) kept)
-          (c.wipe_of.ensures ∙ ap (λ (q : Question). wipe_at p.s.stage q p.a) asked); m_after = steps p.s c.asks-question.result p.a l xs _ asked c.book.ensures.m_after c.book.ensures.rewrites _ c.step-going.ensures.m_after; rewrites = both p.s c.asks-question.result p.a l xs _ asked c.book.ensures.m_after c.book.ensures.rewrites _ c.step-going.ensures.rewrites }
+    let kept = work_kept p.s c.asks-question.result p.a l xs _ asked c.book.ensures.m_after c.book.ensures.rewrites in record {
+      value = took_is x p.a l c.step-going.result c.wipe_of.result (c.step-going.ensures.value ∙ ap (λ (w : Work). going_of (work_step_of w p.a l)) kept)
+          (c.wipe_of.ensures ∙ ap (λ (q : Question). wipe_at p.s.stage q p.a) asked);
+      m_after = steps p.s c.asks-question.result p.a l xs _ asked c.book.ensures.m_after c.book.ensures.rewrites _ c.step-going.ensures.m_after;
+      rewrites = both p.s c.asks-question.result p.a l xs _ asked c.book.ensures.m_after c.book.ensures.rewrites _ c.step-going.ensures.rewrites;
+    }

@@ -8,7 +8,6 @@ use Rattle.in_place.proofs.after_poll.Goals as goal
 
 -- a count of stalls is of 32 bits
 narrow : (n : ℕ) → n < 600990 → n % 4294967296 ≡ n
-
 narrow n h = let l : n < 4294967296 = omega arith in mod-eq_of_lt l
 
 pub returns-then-stalls-lt600990 : goal.returns-then-stalls-lt600990

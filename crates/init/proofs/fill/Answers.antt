@@ -21,6 +21,9 @@ put_all-requires c = let n : length c.zero.new.s ≡ 4096 =
 
 pub returns : goal.returns
 returns c = let n : length c.args.inbox.now ≡ 4096 = omega arith in
-    rw (eq-eqb _ _ n) (record { result_value = refl; inbox_after = c.put_all.ensures
+    rw (eq-eqb _ _ n) (record {
+      result_value = refl;
+      inbox_after = c.put_all.ensures
           ∙ ap (λ (fs : List Field). put_all c.zero.new.s fs) c.fields.ensures
-          ∙ ap (λ (x : List ℕ). put_all x (fields_of c.args.hca)) (c.zero.ensures ∙ ap (λ (k : ℕ). replicate k 0) n) })
+          ∙ ap (λ (x : List ℕ). put_all x (fields_of c.args.hca)) (c.zero.ensures ∙ ap (λ (k : ℕ). replicate k 0) n);
+    })

@@ -31,5 +31,3 @@ returns c =
     three w 0 HEAD (RANGES * 4) (head_words s) (rows_words range_words RANGES 0 (ranges_of l)) (rows_words lent_words LENT 0 (lent_of l))
     c.put_lent.ensures c.put_ranges.ensures (stored w 0 HEAD c.store.ensures c.head_words-head.ensures refl (omega arith)) refl refl
     ∙ sym (ap (λ (b : Bool). pick b w (put_words w 0 (books_words s))) (le-ltb (length w) (BOOKS * 8) room))
-
-

@@ -16,8 +16,11 @@ returns-in-Told c =
     let g = by_whole (value _) p.resource.now u p.state.now p.inbox.now p.outbox.now p.out.now known in record { out_after = c.answer.ensures.out_after ∙ g; holds = known_holds _ _ (λ x. answer_next x p.resource.now u p.inbox.now p.outbox.now p.out.now) p.state.now _ known c.answer.ensures.holds }
 
 pub returns-in-Unknown : goal.returns-in-Unknown
-returns-in-Unknown c = record { out_after = simp (
+returns-in-Unknown c = record {
+  out_after = simp (
     ← c.answer_from.ensures,
     c.in-Unknown.in-Unknown-own.keys2,
     c.in-Unknown.is,
-  ); holds = unknown_holds _ 20 [] _ _ (sym (ap heard_as c.in-Unknown.is) ∙ c.answer_from.ensures) }
+  );
+  holds = unknown_holds _ 20 [] _ _ (sym (ap heard_as c.in-Unknown.is) ∙ c.answer_from.ensures);
+}
