@@ -20,7 +20,7 @@ returns-then-goes_on c =
     let led = c.next_at-next.ensures p.b ∙ sym (ap (λ (q : Bool). pick q (next_heard (first_words p.state.now) h) n.Other) (sym c.is_ready.ensures ∙ c.if-is_ready.true)) in
     let on = sym c.goes_on.ensures ∙ c.if-goes_on.true in (
       whole c.go_on.ensures.value c.go_on.ensures.state_after refl refl c.go_on.ensures.out_after ∙ goes p.resource.now p.top p.state.now p.inbox.now p.outbox.now p.out.now h z led on,
-      goes_holds p.resource.now p.top p.state.now p.inbox.now p.outbox.now p.out.now (λ k. (c.type_inv.state k).fits) h z led on _ c.go_on.ensures.state_after,
+      goes_holds p.resource.now p.top p.state.now p.inbox.now p.outbox.now p.out.now (λ k. (c.slice_known-1.given k).fits) h z led on _ c.go_on.ensures.state_after,
     )
 
 pub returns-then-is_ready : goal.returns-then-is_ready
