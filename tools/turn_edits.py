@@ -204,7 +204,9 @@ def turn_use(turner, path, old, new, now):
     for module, extra, gone in add:
         if not extra and not gone:
             continue
-        if re.match(r"(mathlib|Prim|lib)\.", module):
+        if module == "mathlib.Core.Option":
+            line = re.search(r"^(ghost )?use Rattle\.std\.proofs\.Math\.Option\.\{(.*?)\};?$", text, re.M)
+        elif re.match(r"(mathlib|Prim|lib)\.", module):
             line = prelude
         else:
             to = re.sub(r"·specs\.specs\.", ".specs.", module).replace("·", ".").replace("the-variants", "TheVariants")
