@@ -13,5 +13,5 @@ returns c =
     let z = c.answered in
     subst
     (λ (u : Top). (after z.result z.new.state z.new.inbox z.new.outbox z.new.out ≡ told p.kind p.a p.b p.resource.now u p.state.now p.inbox.now p.outbox.now p.out.now)
-        × Holds p.state.now z.new.state (heard_next (heard_of p.kind p.a p.b) p.resource.now u p.inbox.now p.outbox.now p.out.now))
+    × Holds p.state.now z.new.state (heard_next (heard_of p.kind p.a p.b) p.resource.now u p.inbox.now p.outbox.now p.out.now))
     c.top-top.ensures z.ensures
