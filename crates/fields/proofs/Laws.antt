@@ -6,13 +6,13 @@ use mathlib.Core.List.{List, []}
 use native.Mathlib.Nat.{pow-suc, pow-le-pow_right, lt_of_lt_of_le, mod-one}
 use native.Mathlib.Numerals.{add-one, sub-one}
 use native.Mathlib.Omega.{arith}
-use borrow.Author.Tests.{le-leb, leb-true}
+use borrow.Author.Tests.{le-leb}
 use lib.Arith.{mod-mul}
 use lib.Dec.{lit<, leb}
 use lib.ListN.{length, get_or, set, length-set}
 use lib.Seq.{get_or-set_same, get_or-set_other}
 use Rattle.fields.specs.Outcome.{pick, value, refused}
-use Rattle.fields.specs.Fields.{place_of, digits, put_digits, number_at, put_at, fits, field_at, written_at}
+use Rattle.fields.specs.Fields.{place_of, digits, put_digits, number_at, put_at, field_at, written_at}
 use Rattle.fields.specs.declared.Order.{Order}
 use Rattle.fields.specs.declared.Order.TheVariants.{Big, Little}
 
@@ -124,15 +124,11 @@ number_apart o o' s off w off' w' v h =
 pub field_is : (o : Order) (s : List ℕ) (off w : ℕ) → off + w ≤ length s → field_at o s off w ≡ value (number_at o s off w)
 field_is o s off w h = rw (le-leb (off + w) (length s) h)
 
--- Reading by a test `ok` for room: the field lies within the bytes and its number is the answer, or it is refused.
-pub room_there : (s : List ℕ) (off w : ℕ) {ok : Bool} → ok ≡ fits s off w → ok ≡ true → off + w ≤ length s
-room_there s off w e t = leb-true (off + w) (length s) (sym e ∙ t)
-
-pub read_there : (o : Order) (s : List ℕ) (off w n : ℕ) {ok : Bool} → n ≡ number_at o s off w → ok ≡ fits s off w → ok ≡ true → value n ≡ field_at o s off w
-read_there o s off w n v e t = ap value v ∙ sym (field_is o s off w (room_there s off w e t))
-
-pub read_short : (o : Order) (s : List ℕ) (off w : ℕ) {ok : Bool} → ok ≡ fits s off w → ok ≡ false → refused 21 [] ≡ field_at o s off w
-read_short o s off w e t = rw (sym e ∙ t)
+-- a field that was read is that number
+pub value_picked : (a b : Bool) (n m : ℕ) → value n ≡ pick a (pick b (value m) (refused 21 [])) (refused 21 []) → n ≡ m
+value_picked true true n m e = cc
+value_picked true false n m e = cc
+value_picked false b n m e = cc
 
 length_pick : (b : Bool) (x y : List ℕ) → length x ≡ length y → length (pick b x y) ≡ length y
 length_pick true x y e = e

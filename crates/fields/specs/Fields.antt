@@ -1,19 +1,10 @@
 -- Fields of a list of bytes: unsigned numbers, big- or little-endian, at an offset. Document 01: "be16 and the like are unsigned big-endian";
 -- "which answers be16, be32 and be64 at an offset or refuses with 21". The width and the order are parameters of one definition.
-use Rattle.std.specs.Prelude.{ℕ, zero, suc, ◌+◌, ◌-◌, ◌*◌, ◌/◌, ◌%◌, Bool, List, [], length, get_or, set, leb}
+use Rattle.std.specs.Prelude.{ℕ, zero, suc, ◌+◌, ◌-◌, ◌*◌, ◌/◌, ◌%◌, Bool, List, [], length, get_or, set, leb, Result, Ok, Err}
 use Rattle.fields.specs.Outcome.{Outcome, value, refused, pick}
 use Rattle.fields.specs.declared.Order.{Order}
 use Rattle.fields.specs.declared.Order.TheVariants.{Big, Little}
-use Rattle.fields.specs.declared.Read8.{Read8}
-use Rattle.fields.specs.declared.Read8.TheVariants as r8
-use Rattle.fields.specs.declared.Read16.{Read16}
-use Rattle.fields.specs.declared.Read16.TheVariants as r16
-use Rattle.fields.specs.declared.Read32.{Read32}
-use Rattle.fields.specs.declared.Read32.TheVariants as r32
-use Rattle.fields.specs.declared.Read64.{Read64}
-use Rattle.fields.specs.declared.Read64.TheVariants as r64
-use Rattle.fields.specs.declared.Written.{Written}
-use Rattle.fields.specs.declared.Written.TheVariants as w
+use Rattle.fields.specs.declared.Short.{Short}
 
 -- the index of a field's byte number i, counted from the byte of the greatest weight
 abbrev pub place_of : Order → (off width i : ℕ) → ℕ
@@ -57,23 +48,10 @@ write_at s off width = pick (fits s off width) (value tt) (refused 21 [])
 abbrev pub written_at : Order → List ℕ → (off width v : ℕ) → List ℕ
 written_at o s off width v = pick (fits s off width) (put_at o s off width v) s
 
--- what each answer stands for
-abbrev pub read8 : Read8 → Outcome ℕ
-read8 (r8.Value v) = value v
-read8 r8.Short = refused 21 []
+-- what an answer stands for, where its value stands for a number of its own
+abbrev pub outcome_by : {A B : Type 0} → (A → B) → Result A Short → Outcome B
+outcome_by worth (Ok v) = value (worth v)
+outcome_by worth (Err e) = refused 21 []
 
-abbrev pub read16 : Read16 → Outcome ℕ
-read16 (r16.Value v) = value v
-read16 r16.Short = refused 21 []
-
-abbrev pub read32 : Read32 → Outcome ℕ
-read32 (r32.Value v) = value v
-read32 r32.Short = refused 21 []
-
-abbrev pub read64 : Read64 → Outcome ℕ
-read64 (r64.Value v) = value v
-read64 r64.Short = refused 21 []
-
-abbrev pub written : Written → Outcome Unit
-written w.Done = value tt
-written w.Short = refused 21 []
+abbrev pub outcome : {A : Type 0} → Result A Short → Outcome A
+outcome r = outcome_by (λ v. v) r

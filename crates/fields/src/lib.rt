@@ -2,10 +2,10 @@
 // orders. A field that passes the end of the slice is refused with 21, whatever the offset.
 #![tactic(auto)]
 
-ghost use Rattle.std.specs.Prelude.{◌≡◌, ◌+◌, ◌<◌, ◌≤◌, ◌^◌, [], length, replicate, leb};
+ghost use Rattle.std.specs.Prelude.{ℕ, ◌≡◌, ◌+◌, ◌<◌, ◌≤◌, ◌^◌, [], length, replicate, leb};
+ghost use Rattle.std.proofs.Common.{lit≤};
 ghost use Rattle.fields.specs.Outcome.{pick, refused};
-ghost use Rattle.fields.specs.Fields.{place_of, number_at, put_at, fits, field_at, write_at, written_at};
-ghost use Rattle.fields.specs.Fields.{read8, read16, read32, read64, written};
+ghost use Rattle.fields.specs.Fields.{place_of, number_at, put_at, fits, field_at, write_at, written_at, outcome, outcome_by};
 ghost use Rattle.fields.specs.declared.Order.TheVariants.{Big, Little};
 
 // Which byte of a field has the greatest weight: the first, or the last.
@@ -15,42 +15,98 @@ pub enum Order {
     Little,
 }
 
-// What reading a field gives: its value, or 21 where it passes the end.
-#[derive(Clone, Copy)]
-pub enum Read8 {
-    Value(u8),
-    Short,
+// A field passes the end of the slice: 21.
+#[derive(Debug, Clone, Copy, PartialEq, Eq)]
+pub struct Short;
+
+// An unsigned number that stands in a field, of as many bytes as its type has.
+pub trait Unsigned: Copy {
+    ghost WIDTH: { ℕ };
+
+    ghost worth: { Self → ℕ };
+
+    const WIDTH: usize;
+
+    fn wide(self) -> u64
+        ensures { result ≡ worth self };
+
+    fn narrow(n: u64) -> Self
+        requires { n < 256 ^ WIDTH }
+        ensures { worth result ≡ n };
+
+    ghost at_most_8: { WIDTH ≤ 8 };
 }
 
-#[derive(Clone, Copy)]
-pub enum Read16 {
-    Value(u16),
-    Short,
+impl Unsigned for u8 {
+    ghost WIDTH = { 1 };
+
+    ghost worth = { λ n. n };
+
+    ghost at_most_8 = { lit≤ tt };
+
+    const WIDTH: usize = 1;
+
+    fn wide(self) -> u64 {
+        u64::from(self)
+    }
+
+    fn narrow(n: u64) -> Self {
+        n as u8
+    }
 }
 
-#[derive(Clone, Copy)]
-pub enum Read32 {
-    Value(u32),
-    Short,
+impl Unsigned for u16 {
+    ghost WIDTH = { 2 };
+
+    ghost worth = { λ n. n };
+
+    ghost at_most_8 = { lit≤ tt };
+
+    const WIDTH: usize = 2;
+
+    fn wide(self) -> u64 {
+        u64::from(self)
+    }
+
+    fn narrow(n: u64) -> Self {
+        n as u16
+    }
 }
 
-#[derive(Clone, Copy)]
-pub enum Read64 {
-    Value(u64),
-    Short,
+impl Unsigned for u32 {
+    ghost WIDTH = { 4 };
+
+    ghost worth = { λ n. n };
+
+    ghost at_most_8 = { lit≤ tt };
+
+    const WIDTH: usize = 4;
+
+    fn wide(self) -> u64 {
+        u64::from(self)
+    }
+
+    fn narrow(n: u64) -> Self {
+        n as u32
+    }
 }
 
-// What writing a field gives: done, or 21 where it passes the end.
-#[derive(Clone, Copy)]
-pub enum Written {
-    Done,
-    Short,
-}
+impl Unsigned for u64 {
+    ghost WIDTH = { 8 };
 
-fn wide(x: u8) -> u64
-    ensures { result ≡ x }
-{
-    x as u64
+    ghost worth = { λ n. n };
+
+    ghost at_most_8 = { lit≤ tt };
+
+    const WIDTH: usize = 8;
+
+    fn wide(self) -> u64 {
+        self
+    }
+
+    fn narrow(n: u64) -> Self {
+        n
+    }
 }
 
 // A field of width bytes at off lies within the slice. No sum is made, so no offset overflows.
@@ -58,10 +114,7 @@ pub fn room(s: &[u8], off: usize, width: usize) -> bool
     ensures { result ≡ fits s.now off width }
 {
     let n = s.len();
-    if n < width {
-        return false;
-    }
-    if off <= n - width { true } else { false }
+    width <= n && off <= n - width
 }
 
 // Where a field's byte number i stands, counted from the byte of the greatest weight.
@@ -81,11 +134,9 @@ fn number(s: &[u8], order: Order, off: usize, width: usize) -> u64
     ensures { result ≡ number_at order s.now off width }
 {
     let mut v: u64 = 0;
-    let mut i: usize = 0;
-    while i < width {
+    for i in 0..width {
         let at = place(order, off, width, i);
-        v = v * 256 + wide(s[at]);
-        i = i + 1;
+        v = v * 256 + u64::from(s[at]);
     }
     v
 }
@@ -96,9 +147,7 @@ fn put(s: &mut [u8], order: Order, off: usize, width: usize, v: u64)
     ensures { s.new ≡ put_at order s.old off width v }
 {
     let mut x = v;
-    let mut i = width;
-    while 0 < i {
-        i = i - 1;
+    for i in (0..width).rev() {
         let at = place(order, off, width, i);
         s[at] = (x % 256) as u8;
         x = x / 256;
@@ -107,133 +156,124 @@ fn put(s: &mut [u8], order: Order, off: usize, width: usize, v: u64)
 
 // Reads a field of any width up to eight bytes. A wider one has no number of 64 bits: it is refused
 // with 21, since a reader "answers .. or refuses with 21". Nothing in the product asks for one.
-pub fn field(s: &[u8], order: Order, off: usize, width: usize) -> Read64
-    ensures { read64 result ≡ pick (leb width 8) (field_at order s.now off width) (refused 21 []) }
+pub fn field(s: &[u8], order: Order, off: usize, width: usize) -> Result<u64, Short>
+    ensures { outcome result ≡ pick (leb width 8) (field_at order s.now off width) (refused 21 []) }
 {
-    if 8 < width {
-        return Read64::Short;
-    }
-    if room(s, off, width) {
-        Read64::Value(number(s, order, off, width))
+    if width <= 8 && room(s, off, width) {
+        Ok(number(s, order, off, width))
     } else {
-        Read64::Short
+        Err(Short)
     }
 }
 
-pub fn byte(s: &[u8], off: usize) -> Read8
-    ensures { read8 result ≡ field_at Big s.now off 1 }
+// Reads a field as wide as the number.
+fn read<N: Unsigned>(s: &[u8], order: Order, off: usize) -> Result<N, Short>
+    ensures { outcome_by N.worth result ≡ field_at order s.now off N.WIDTH }
 {
-    if room(s, off, 1) {
-        Read8::Value(number(s, Order::Big, off, 1) as u8)
-    } else {
-        Read8::Short
-    }
+    Ok(N::narrow(field(s, order, off, N::WIDTH)?))
 }
 
-pub fn be16(s: &[u8], off: usize) -> Read16
-    ensures { read16 result ≡ field_at Big s.now off 2 }
+pub fn byte(s: &[u8], off: usize) -> Result<u8, Short>
+    ensures { outcome result ≡ field_at Big s.now off 1 }
 {
-    if room(s, off, 2) {
-        Read16::Value(number(s, Order::Big, off, 2) as u16)
-    } else {
-        Read16::Short
-    }
+    read(s, Order::Big, off)
 }
 
-pub fn be32(s: &[u8], off: usize) -> Read32
-    ensures { read32 result ≡ field_at Big s.now off 4 }
+pub fn be16(s: &[u8], off: usize) -> Result<u16, Short>
+    ensures { outcome result ≡ field_at Big s.now off 2 }
 {
-    if room(s, off, 4) {
-        Read32::Value(number(s, Order::Big, off, 4) as u32)
-    } else {
-        Read32::Short
-    }
+    read(s, Order::Big, off)
 }
 
-pub fn be64(s: &[u8], off: usize) -> Read64
-    ensures { read64 result ≡ field_at Big s.now off 8 }
+pub fn be32(s: &[u8], off: usize) -> Result<u32, Short>
+    ensures { outcome result ≡ field_at Big s.now off 4 }
 {
-    field(s, Order::Big, off, 8)
+    read(s, Order::Big, off)
 }
 
-pub fn le16(s: &[u8], off: usize) -> Read16
-    ensures { read16 result ≡ field_at Little s.now off 2 }
+pub fn be64(s: &[u8], off: usize) -> Result<u64, Short>
+    ensures { outcome result ≡ field_at Big s.now off 8 }
 {
-    if room(s, off, 2) {
-        Read16::Value(number(s, Order::Little, off, 2) as u16)
-    } else {
-        Read16::Short
-    }
+    read(s, Order::Big, off)
 }
 
-pub fn le64(s: &[u8], off: usize) -> Read64
-    ensures { read64 result ≡ field_at Little s.now off 8 }
+pub fn le16(s: &[u8], off: usize) -> Result<u16, Short>
+    ensures { outcome result ≡ field_at Little s.now off 2 }
 {
-    field(s, Order::Little, off, 8)
+    read(s, Order::Little, off)
+}
+
+pub fn le64(s: &[u8], off: usize) -> Result<u64, Short>
+    ensures { outcome result ≡ field_at Little s.now off 8 }
+{
+    read(s, Order::Little, off)
 }
 
 // Writes a field of any width, or nothing where it passes the end.
-pub fn set_field(s: &mut [u8], order: Order, off: usize, width: usize, v: u64) -> Written
-    ensures result_value { written result ≡ write_at s.old off width }
+pub fn set_field(s: &mut [u8], order: Order, off: usize, width: usize, v: u64) -> Result<(), Short>
+    ensures result_value { outcome result ≡ write_at s.old off width }
     ensures s_after { s.new ≡ written_at order s.old off width v }
 {
-    if room(s, off, width) {
-        put(s, order, off, width, v);
-        Written::Done
-    } else {
-        Written::Short
+    if !room(s, off, width) {
+        return Err(Short);
     }
+    put(s, order, off, width, v);
+    Ok(())
 }
 
-pub fn set_byte(s: &mut [u8], off: usize, v: u8) -> Written
-    ensures result_value { written result ≡ write_at s.old off 1 }
+// Writes a field as wide as the number.
+fn write<N: Unsigned>(s: &mut [u8], order: Order, off: usize, v: N) -> Result<(), Short>
+    ensures result_value { outcome result ≡ write_at s.old off N.WIDTH }
+    ensures s_after { s.new ≡ written_at order s.old off N.WIDTH (N.worth v) }
+{
+    set_field(s, order, off, N::WIDTH, v.wide())
+}
+
+pub fn set_byte(s: &mut [u8], off: usize, v: u8) -> Result<(), Short>
+    ensures result_value { outcome result ≡ write_at s.old off 1 }
     ensures s_after { s.new ≡ written_at Big s.old off 1 v }
 {
-    set_field(s, Order::Big, off, 1, v as u64)
+    write(s, Order::Big, off, v)
 }
 
-pub fn set_be16(s: &mut [u8], off: usize, v: u16) -> Written
-    ensures result_value { written result ≡ write_at s.old off 2 }
+pub fn set_be16(s: &mut [u8], off: usize, v: u16) -> Result<(), Short>
+    ensures result_value { outcome result ≡ write_at s.old off 2 }
     ensures s_after { s.new ≡ written_at Big s.old off 2 v }
 {
-    set_field(s, Order::Big, off, 2, v as u64)
+    write(s, Order::Big, off, v)
 }
 
-pub fn set_be32(s: &mut [u8], off: usize, v: u32) -> Written
-    ensures result_value { written result ≡ write_at s.old off 4 }
+pub fn set_be32(s: &mut [u8], off: usize, v: u32) -> Result<(), Short>
+    ensures result_value { outcome result ≡ write_at s.old off 4 }
     ensures s_after { s.new ≡ written_at Big s.old off 4 v }
 {
-    set_field(s, Order::Big, off, 4, v as u64)
+    write(s, Order::Big, off, v)
 }
 
-pub fn set_be64(s: &mut [u8], off: usize, v: u64) -> Written
-    ensures result_value { written result ≡ write_at s.old off 8 }
+pub fn set_be64(s: &mut [u8], off: usize, v: u64) -> Result<(), Short>
+    ensures result_value { outcome result ≡ write_at s.old off 8 }
     ensures s_after { s.new ≡ written_at Big s.old off 8 v }
 {
-    set_field(s, Order::Big, off, 8, v)
+    write(s, Order::Big, off, v)
 }
 
-pub fn set_le16(s: &mut [u8], off: usize, v: u16) -> Written
-    ensures result_value { written result ≡ write_at s.old off 2 }
+pub fn set_le16(s: &mut [u8], off: usize, v: u16) -> Result<(), Short>
+    ensures result_value { outcome result ≡ write_at s.old off 2 }
     ensures s_after { s.new ≡ written_at Little s.old off 2 v }
 {
-    set_field(s, Order::Little, off, 2, v as u64)
+    write(s, Order::Little, off, v)
 }
 
-pub fn set_le64(s: &mut [u8], off: usize, v: u64) -> Written
-    ensures result_value { written result ≡ write_at s.old off 8 }
+pub fn set_le64(s: &mut [u8], off: usize, v: u64) -> Result<(), Short>
+    ensures result_value { outcome result ≡ write_at s.old off 8 }
     ensures s_after { s.new ≡ written_at Little s.old off 8 v }
 {
-    set_field(s, Order::Little, off, 8, v)
+    write(s, Order::Little, off, v)
 }
 
 // Every byte 0.
 pub fn zero(s: &mut [u8])
     ensures { s.new ≡ replicate (length s.old) 0 }
 {
-    let mut i: usize = 0;
-    while i < s.len() {
-        s[i] = 0;
-        i = i + 1;
-    }
+    s.fill(0);
 }
