@@ -221,10 +221,7 @@ pub fn candidates(regs: [u32; 6], reg: usize) -> Indices
 fn number(bytes: &[u8], off: usize) -> u64
     ensures { result ≡ value_or 0 (field_at Little bytes.now off 8) }
 {
-    match fields::le64(bytes, off) {
-        fields::Read64::Value(v) => v,
-        fields::Read64::Short => 0,
-    }
+    fields::le64(bytes, off).unwrap_or(0)
 }
 
 // How many bytes a descriptor has behind its header.
@@ -232,10 +229,7 @@ fn length_of(descriptor: &[u8]) -> usize
     requires { 3 ≤ length descriptor.now }
     ensures { (result ≡ length_in descriptor.now) × (result < 65536) }
 {
-    match fields::le16(descriptor, 1) {
-        fields::Read16::Value(v) => v as usize,
-        fields::Read16::Short => 0,
-    }
+    usize::from(fields::le16(descriptor, 1).unwrap_or(0))
 }
 
 // The range that a memory descriptor gives; 27 where it is too short for one, or not whole.

@@ -9,7 +9,7 @@ ghost use Rattle.reply.specs.Replies.{mac_of, port_of, no_port, query_port, quer
 ghost use Rattle.reply.specs.Capability.{capability, capability_of, dev_cap_of, entries_of, no_caps, uar_area, above_size, one_or_two, refused_by, refused_caps, bit};
 
 use bars::Size;
-use fields::{Read8, Read16, Read32, Read64};
+use reader::Reader;
 
 // The kinds of ICM table, by index, and what is fixed for each.
 #[derive(Clone, Copy)]
@@ -245,40 +245,28 @@ fn byte(reply: &[u8], off: usize) -> u8
     requires { off + 1 ≤ length reply.now }
     ensures { result ≡ be reply.now off 1 }
 {
-    match reader::byte(reply, off) {
-        Read8::Value(v) => v,
-        Read8::Short => 0,
-    }
+    Reader::new(reply).u8(off).unwrap_or(0)
 }
 
 fn be16(reply: &[u8], off: usize) -> u16
     requires { off + 2 ≤ length reply.now }
     ensures { result ≡ be reply.now off 2 }
 {
-    match reader::be16(reply, off) {
-        Read16::Value(v) => v,
-        Read16::Short => 0,
-    }
+    Reader::new(reply).be16(off).unwrap_or(0)
 }
 
 fn be32(reply: &[u8], off: usize) -> u32
     requires { off + 4 ≤ length reply.now }
     ensures { result ≡ be reply.now off 4 }
 {
-    match reader::be32(reply, off) {
-        Read32::Value(v) => v,
-        Read32::Short => 0,
-    }
+    Reader::new(reply).be32(off).unwrap_or(0)
 }
 
 fn be64(reply: &[u8], off: usize) -> u64
     requires { off + 8 ≤ length reply.now }
     ensures { result ≡ be reply.now off 8 }
 {
-    match reader::be64(reply, off) {
-        Read64::Value(v) => v,
-        Read64::Short => 0,
-    }
+    Reader::new(reply).be64(off).unwrap_or(0)
 }
 
 // 2^log, for a log of four bits.
