@@ -21,6 +21,7 @@ use Rattle.uar.specs.declared.BarPhase.TheVariants as bar-phase
 use Rattle.reset.specs.contracts.Phase.{the_row as reset-phase-row}
 use Rattle.reset.specs.contracts.Control.{the_row as control-row}
 use Rattle.reset.specs.contracts.Reset.{the_row as reset-row}
+use Rattle.std.specs.contracts.option.Option.{the_field as option-of, the_type as option-type}
 use Rattle.bars.specs.contracts.BarRange.{the_row as range-row}
 use Rattle.bars.specs.contracts.Candidate.{the_row as candidate-row}
 use Rattle.bars.specs.contracts.Asking.{the_row as asking-row}
@@ -56,8 +57,8 @@ reset_typed v vs h = record {
   control = control_typed v.control _ h.1.1.1.1.0;
 }
 
-pub range_typed : (v : Option BarRange) (vs : List Val) → Is range-row v vs → RangeFits v
-range_typed (Some x) vs h = (h.1.1.1.1.0.1, h.1.1.1.1.1.0.1)
+pub range_typed : (v : Option BarRange) (vs : List Val) → Is (option-of range-row).row ((option-type range-row).to v) vs → RangeFits v
+range_typed (Some x) vs h = (h.1.1.1.1.0.1.1.0.1, h.1.1.1.1.0.1.1.1.0.1)
 range_typed None vs h = tt
 
 pub candidate_typed : (v : Candidate) (vs : List Val) → Is candidate-row v vs → CandidateFits v

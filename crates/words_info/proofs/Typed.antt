@@ -4,6 +4,7 @@ use mathlib.Core.List.{List}
 use mir.Syntax.{w8, w16}
 use mir.Val.{Val}
 use denote.Laws.{Is}
+use denote.Builtin.{u64}
 use Rattle.words.proofs.Typed.{array_below}
 use Rattle.bars.specs.declared.How.{How}
 use Rattle.bars.specs.declared.Pick.{Pick}
@@ -11,7 +12,7 @@ use Rattle.reply.specs.declared.FuncInfo.{FuncInfo}
 use Rattle.reply.specs.declared.DevCap.{DevCap}
 use Rattle.reply.specs.declared.PortInfo.{PortInfo}
 use Rattle.bars.specs.declared.How.TheVariants as how
-use Rattle.bars.specs.contracts.Size.{the_row as size-row}
+use Rattle.std.specs.contracts.option.Option.{the_field as option-of, the_type as option-type}
 use Rattle.bars.specs.contracts.How.{the_row as how-row}
 use Rattle.bars.specs.contracts.Pick.{the_row as pick-row}
 use Rattle.reply.specs.contracts.FuncInfo.{the_row as func-row}
@@ -19,7 +20,7 @@ use Rattle.reply.specs.contracts.DevCap.{the_row as cap-row}
 use Rattle.reply.specs.contracts.PortInfo.{the_row as port-row}
 use Rattle.words_info.specs.Fits.{SizeFits, HowFits, PickFits, FuncFits, CapFits, PortFits}
 
-pub size_typed : (v : Option ℕ) (vs : List Val) → Is size-row v vs → SizeFits v
+pub size_typed : (v : Option ℕ) (vs : List Val) → Is (option-of u64).row ((option-type u64).to v) vs → SizeFits v
 size_typed (Some x) vs h = h.1.1.1.1.0.1
 size_typed None vs h = tt
 
