@@ -1,13 +1,11 @@
 -- What the calls on BARs give as words, and the state of a choice in the words of an answer.
+use Rattle.std.specs.Prelude as std
 use Rattle.std.specs.Prelude.{ℕ, ◌+◌, ◌*◌, ◌%◌, Bool, true, false, not, List, [], ◌∷◌, replicate, eqb}
 use Rattle.std.proofs.Math.Option.{Option, none, some}
 use Rattle.fields.specs.Outcome.{Outcome, value, refused, value_or, number_of, pick}
 use Rattle.fields.specs.Fields.{field_at}
 use Rattle.fields.specs.declared.Order.TheVariants.{Big}
 use Rattle.bars.specs.declared.BarRange.{BarRange}
-use Rattle.bars.specs.declared.BarRange.TheVariants as b
-use Rattle.bars.specs.declared.Size.{Size}
-use Rattle.bars.specs.declared.Size.TheVariants as s
 use Rattle.bars.specs.declared.How.{How}
 use Rattle.bars.specs.declared.How.TheVariants as h
 use Rattle.bars.specs.declared.Pick.{Pick}
@@ -28,22 +26,22 @@ list_words (value (some (base, length))) = 1 ∷ base ∷ length ∷ []
 list_words (value none) = 0 ∷ 0 ∷ 0 ∷ []
 list_words (refused n vs) = n ∷ 0 ∷ 0 ∷ []
 
-abbrev pub range_from : (known : Bool) (base length : ℕ) → BarRange
-range_from true base length = b.Range base length
-range_from false base length = b.NoAnswer
+abbrev pub range_from : (known : Bool) (base length : ℕ) → std.Option BarRange
+range_from true base length = std.Some (record { base = base; length = length })
+range_from false base length = std.None
 
 -- the parts of a state
-abbrev pub known_in : BarRange → ℕ
-known_in (b.Range base length) = 1
-known_in b.NoAnswer = 0
+abbrev pub known_in : std.Option BarRange → ℕ
+known_in (std.Some r) = 1
+known_in std.None = 0
 
-abbrev pub base_in : BarRange → ℕ
-base_in (b.Range base length) = base
-base_in b.NoAnswer = 0
+abbrev pub base_in : std.Option BarRange → ℕ
+base_in (std.Some r) = r.base
+base_in std.None = 0
 
-abbrev pub length_in : BarRange → ℕ
-length_in (b.Range base length) = length
-length_in b.NoAnswer = 0
+abbrev pub length_in : std.Option BarRange → ℕ
+length_in (std.Some r) = r.length
+length_in std.None = 0
 
 abbrev pub tag_of : Asking → ℕ
 tag_of q.First = 0
@@ -55,13 +53,13 @@ index_of q.First = 0
 index_of q.Second = 0
 index_of (q.Other i) = i
 
-abbrev pub size_known : Size → ℕ
-size_known (s.Known n) = 1
-size_known s.Unknown = 0
+abbrev pub size_known : std.Option ℕ → ℕ
+size_known (std.Some n) = 1
+size_known std.None = 0
 
-abbrev pub size_in : Size → ℕ
-size_in (s.Known n) = n
-size_in s.Unknown = 0
+abbrev pub size_in : std.Option ℕ → ℕ
+size_in (std.Some n) = n
+size_in std.None = 0
 
 -- how an index was chosen, in the order of the declaration
 abbrev pub how_number : How → ℕ

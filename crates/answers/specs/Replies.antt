@@ -1,8 +1,6 @@
 -- What the card's replies give as words.
-use Rattle.std.specs.Prelude.{ℕ, Bool, true, false, List, [], ◌∷◌, get_or, replicate}
+use Rattle.std.specs.Prelude.{ℕ, Bool, true, false, List, [], ◌∷◌, get_or, replicate, Option, Some, None}
 use Rattle.fields.specs.Outcome.{Outcome, value, refused, number_of}
-use Rattle.bars.specs.declared.Size.{Size}
-use Rattle.bars.specs.declared.Size.TheVariants as s
 use Rattle.reply.specs.declared.DevCap.{DevCap}
 use Rattle.reply.specs.declared.FwInfo.{FwInfo}
 use Rattle.reply.specs.declared.PortInfo.{PortInfo}
@@ -10,9 +8,9 @@ use Rattle.reply.specs.declared.FuncInfo.{FuncInfo}
 use Rattle.answers.specs.Words.{bit, beside_of}
 use Rattle.answers.specs.declared.replies.Code.{Code}
 
-abbrev pub size_from : (known : Bool) → ℕ → Size
-size_from true n = s.Known n
-size_from false n = s.Unknown
+abbrev pub size_from : (known : Bool) → ℕ → Option ℕ
+size_from true n = Some n
+size_from false n = None
 
 -- a refusal's number and the value beside it
 abbrev pub code_of : {A : Type 0} → Outcome A → Code

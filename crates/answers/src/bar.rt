@@ -9,72 +9,71 @@ ghost use Rattle.answers.specs.Bars.{pair_words, list_words, range_from, known_i
 ghost use Rattle.answers.specs.Bars.{tag_of, index_of, size_known, size_in, how_number};
 ghost use Rattle.answers.specs.Bars.{ask_words, pick_words, next_words, begun_words, word_at, flag, asking_from, candidate_in, choice_in};
 
-use bars::{
-    Address, Asking, BarList, BarRange, Begun, Candidate, Choice, How, Indices, Next, Pick, Size,
-};
+use bars::{Asking, BadList, BadRegister, BarRange, Candidate, Choice, How, Indices, Next, Pick};
 
-pub fn address_words(a: Address) -> [u64; 2]
+pub fn address_words(a: Result<u64, BadRegister>) -> [u64; 2]
     ensures { result ≡ number_words (address a) }
 {
     match a {
-        Address::At(base) => [0, base],
-        Address::Refused => [4, 0],
+        Ok(base) => [0, base],
+        Err(_) => [4, 0],
     }
 }
 
-pub fn indices_words(i: Indices) -> [u64; 3]
+pub fn indices_words(i: Result<Indices, BadRegister>) -> [u64; 3]
     ensures { result ≡ pair_words (indices i) }
 {
     match i {
-        Indices::Both { first, second } => [0, first as u64, second as u64],
-        Indices::Refused => [4, 0, 0],
+        Ok(both) => [0, both.first as u64, both.second as u64],
+        Err(_) => [4, 0, 0],
     }
 }
 
-pub fn list_words(l: BarList) -> [u64; 3]
+pub fn list_words(l: Result<Option<BarRange>, BadList>) -> [u64; 3]
     ensures { result ≡ list_words (listed l) }
 {
     match l {
-        BarList::Range { base, length } => [1, base, length],
-        BarList::NoAnswer => [0, 0, 0],
-        BarList::Bad => [27, 0, 0],
+        Ok(Some(r)) => [1, r.base, r.length],
+        Ok(None) => [0, 0, 0],
+        Err(_) => [27, 0, 0],
     }
 }
 
 // The parts of a state, as words and back.
-pub fn range_from(known: bool, base: u64, length: u64) -> BarRange
+pub fn range_from(known: bool, base: u64, length: u64) -> Option<BarRange>
     ensures { result ≡ range_from known base length }
 {
     if known {
-        return BarRange::Range { base, length };
+        Some(BarRange { base, length })
+    } else {
+        None
     }
-    BarRange::NoAnswer
 }
 
-fn known_in(r: BarRange) -> u64
+fn known_in(r: Option<BarRange>) -> u64
     ensures { result ≡ known_in r }
 {
     match r {
-        BarRange::Range { base: _, length: _ } => 1,
-        BarRange::NoAnswer => 0,
+        Some(_) => 1,
+        None => 0,
     }
 }
 
-fn base_in(r: BarRange) -> u64
+fn base_in(r: Option<BarRange>) -> u64
     ensures { result ≡ base_in r }
 {
     match r {
-        BarRange::Range { base, length: _ } => base,
-        BarRange::NoAnswer => 0,
+        Some(range) => range.base,
+        None => 0,
     }
 }
 
-fn length_in(r: BarRange) -> u64
+fn length_in(r: Option<BarRange>) -> u64
     ensures { result ≡ length_in r }
 {
     match r {
-        BarRange::Range { base: _, length } => length,
-        BarRange::NoAnswer => 0,
+        Some(range) => range.length,
+        None => 0,
     }
 }
 
@@ -99,21 +98,21 @@ fn index(q: Asking) -> u64
 }
 
 // Whether a size is known, as 1 or 0; and the size, or 0.
-pub fn size_known(s: Size) -> u64
+pub fn size_known(s: Option<u64>) -> u64
     ensures { result ≡ size_known s }
 {
     match s {
-        Size::Known(_) => 1,
-        Size::Unknown => 0,
+        Some(_) => 1,
+        None => 0,
     }
 }
 
-pub fn size_in(s: Size) -> u64
+pub fn size_in(s: Option<u64>) -> u64
     ensures { result ≡ size_in s }
 {
     match s {
-        Size::Known(n) => n,
-        Size::Unknown => 0,
+        Some(n) => n,
+        None => 0,
     }
 }
 
@@ -193,12 +192,12 @@ pub fn next_words(n: Next) -> [u64; 16]
     }
 }
 
-pub fn begun_words(g: Begun) -> [u64; 16]
+pub fn begun_words(g: Result<(u8, Choice), BadRegister>) -> [u64; 16]
     ensures { result ≡ begun_words (begun g) }
 {
     match g {
-        Begun::Ask(i, c) => ask_words(i, c),
-        Begun::Refused => [4, 0, 0, 0, 0, 0, 0, 0, 0, 0, 0, 0, 0, 0, 0, 0],
+        Ok((i, c)) => ask_words(i, c),
+        Err(_) => [4, 0, 0, 0, 0, 0, 0, 0, 0, 0, 0, 0, 0, 0, 0, 0],
     }
 }
 

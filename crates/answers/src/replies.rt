@@ -6,7 +6,6 @@ ghost use Rattle.reply.specs.Replies.{fw_by, no_fw, query_func};
 ghost use Rattle.answers.specs.Replies.{size_from, code_of, cap_words, fw_words, port_words, func_words};
 
 use crate::words;
-use bars::Size;
 use reply::{CapCheck, Capability, FuncReply, FwCheck, FwReply, PortReply};
 
 // A refusal's number and the value beside it; 0 where there is none.
@@ -22,13 +21,13 @@ impl Code {
     pub const SHORT: u64 = 21;
 }
 
-pub fn size_from(known: bool, bytes: u64) -> Size
+pub fn size_from(known: bool, bytes: u64) -> Option<u64>
     ensures { result ≡ size_from known bytes }
 {
     if known {
-        return Size::Known(bytes);
+        return Some(bytes);
     }
-    Size::Unknown
+    None
 }
 
 pub fn cap_code(k: CapCheck) -> Code

@@ -1,10 +1,9 @@
 -- The steps of a choice follow the definition: they ask its indices, in its order, and end in its pick.
-use Rattle.std.proofs.Common.{◌≡◌, ℕ, zero, suc, ◌+◌, ◌-◌, Bool, true, false, ◌||◌, eqb, List, [], ◌∷◌, sym, refl, ap, subst, arith}
+use Rattle.std.proofs.Common.{◌≡◌, ℕ, zero, suc, ◌+◌, ◌-◌, Bool, true, false, ◌||◌, eqb, List, [], ◌∷◌, Option, Some, None, sym, refl, ap, subst, arith}
 use Rattle.fields.specs.Outcome.{pick}
 use Rattle.bars.specs.Choose.{Table, answers, has_base, those, up_to, any, first_of, rising, is_other, others_from, settled, asked, chosen}
 use Rattle.bars.specs.Steps.{size_from, pick_of, settled_by, settled_of, onward_of, judged_of, start_of, Runs, ends, asks_on, picked, Follows}
 use Rattle.bars.specs.declared.BarRange.{BarRange}
-use Rattle.bars.specs.declared.BarRange.TheVariants as b
 use Rattle.bars.specs.declared.How.{How}
 use Rattle.bars.specs.declared.How.TheVariants as h
 use Rattle.bars.specs.declared.Pick.{Pick}
@@ -32,10 +31,10 @@ module _ (base first second : ℕ) (t : Table) where
   pick_at c = record { index = c.0; size = size_from (t c.0); how = c.1 }
 
   -- the state when the first candidate has answered, and the second has answered `two`
-  abbrev heard : BarRange → Asking → Choice
+  abbrev heard : Option BarRange → Asking → Choice
   heard two q = record { base = base; first = record { index = first; answer = t first }; second = record { index = second; answer = two }; asking = q }
 
-  module _ (two : BarRange) (none : ℕ × How) (e : settled_of (heard two q.First).first (heard two q.First).second ≡ pick_at none) where
+  module _ (two : Option BarRange) (none : ℕ × How) (e : settled_of (heard two q.First).first (heard two q.First).second ≡ pick_at none) where
     -- an index that is asked wins or not
     at-match : (i : ℕ) (is : List ℕ) (b : Bool) → Runs t (onward_of (heard two (q.Other i)) is) (up_to matches is) (pick_at (first_of matches is h.Scan none))
         → Runs t (pick b (n.Picked (pick_of (record { index = i; answer = t i }) h.Scan)) (onward_of (heard two (q.Other i)) is)) (pick b [] (up_to matches is)) (pick_at (pick b (i, h.Scan) (first_of matches is h.Scan none)))
@@ -75,16 +74,16 @@ module _ (base first second : ℕ) (t : Table) where
     judged a false false false f = scan 0 6 refl a
 
   -- the pick where no base matches, by the candidates' answers
-  settled_one : (x : BarRange) → settled_by (heard b.NoAnswer q.First).first (heard b.NoAnswer q.First).second x b.NoAnswer ≡ pick_at (settled first (pick (answers x) (first ∷ []) []))
-  settled_one (b.Range x m) = refl
-  settled_one b.NoAnswer = refl
+  settled_one : (x : Option BarRange) → settled_by (heard None q.First).first (heard None q.First).second x None ≡ pick_at (settled first (pick (answers x) (first ∷ []) []))
+  settled_one (Some x) = refl
+  settled_one None = refl
 
-  settled_two : (x y : BarRange) → settled_by (heard (t second) q.Second).first (heard (t second) q.Second).second x y
+  settled_two : (x y : Option BarRange) → settled_by (heard (t second) q.Second).first (heard (t second) q.Second).second x y
       ≡ pick_at (settled first (pick (answers x) (first ∷ pick (answers y) (second ∷ []) []) (pick (answers y) (second ∷ []) [])))
-  settled_two (b.Range x m) (b.Range y k) = refl
-  settled_two (b.Range x m) b.NoAnswer = refl
-  settled_two b.NoAnswer (b.Range y k) = refl
-  settled_two b.NoAnswer b.NoAnswer = refl
+  settled_two (Some x) (Some y) = refl
+  settled_two (Some x) None = refl
+  settled_two None (Some y) = refl
+  settled_two None None = refl
 
   by_equal : (s : Bool) → eqb first second ≡ s → Runs t (n.Ask first (start_of base first second)) (asked base first second t) (picked base first second t)
   unfolding asked chosen those any first_of
@@ -92,13 +91,13 @@ module _ (base first second : ℕ) (t : Table) where
       rw e
       (asks_on
       (runs_from t _ _ _ _
-      (ap (λ (s : Bool). pick s (judged_of (heard b.NoAnswer q.First)) (n.Ask second (heard b.NoAnswer q.Second))) e)
-      (judged b.NoAnswer _ (settled_one (t first)) q.First (eqb base 0) (matches first) false (λ f. absurd (differ f)))))
+      (ap (λ (s : Bool). pick s (judged_of (heard None q.First)) (n.Ask second (heard None q.Second))) e)
+      (judged None _ (settled_one (t first)) q.First (eqb base 0) (matches first) false (λ f. absurd (differ f)))))
   by_equal false e =
       rw e
       (asks_on
       (runs_from t _ _ _ _
-      (ap (λ (s : Bool). pick s (judged_of (heard b.NoAnswer q.First)) (n.Ask second (heard b.NoAnswer q.Second))) e)
+      (ap (λ (s : Bool). pick s (judged_of (heard None q.First)) (n.Ask second (heard None q.Second))) e)
       (asks_on (judged (t second) _ (settled_two (t first) (t second)) q.Second (eqb base 0) (matches first) (matches second) (λ f. refl)))))
 
 pub follows : Follows

@@ -1,10 +1,8 @@
 -- The BAR dwords: the address that one holds, and the indices that PCI I/O may know it by. Document 01, bars.
-use Rattle.std.specs.Prelude.{ℕ, suc, ◌+◌, ◌*◌, ◌/◌, ◌%◌, Bool, true, false, not, ◌&&◌, List, [], ◌∷◌, take, ◌==◌, nat_le, slice_index}
+use Rattle.std.specs.Prelude.{ℕ, suc, ◌+◌, ◌*◌, ◌/◌, ◌%◌, Bool, true, false, not, ◌&&◌, List, [], ◌∷◌, take, ◌==◌, nat_le, slice_index, Result, Ok, Err}
 use Rattle.fields.specs.Outcome.{Outcome, value, refused, pick}
-use Rattle.bars.specs.declared.Address.{Address}
-use Rattle.bars.specs.declared.Address.TheVariants as a
+use Rattle.bars.specs.declared.BadRegister.{BadRegister}
 use Rattle.bars.specs.declared.Indices.{Indices}
-use Rattle.bars.specs.declared.Indices.TheVariants as i
 
 -- Public document: PCI Local Bus, base address registers (what the low bits say; the two dwords of
 -- a 64-bit BAR). It was not at hand; bits and places are those of Linux's pci_regs.h.
@@ -43,15 +41,11 @@ count_of regs reg = bars false (take reg regs)
 abbrev pub candidates_at : List ℕ → ℕ → Outcome (ℕ × ℕ)
 candidates_at regs reg = in_range reg (reg, count_of regs reg)
 
--- how many registers a BAR takes
-abbrev pub width_of : ℕ → ℕ
-width_of dword = pick (is64 dword) 2 1
-
 -- what each answer stands for
-abbrev pub address : Address → Outcome ℕ
-address (a.At base) = value base
-address a.Refused = refused 4 []
+abbrev pub address : Result ℕ BadRegister → Outcome ℕ
+address (Ok base) = value base
+address (Err e) = refused 4 []
 
-abbrev pub indices : Indices → Outcome (ℕ × ℕ)
-indices (i.Both first second) = value (first, second)
-indices i.Refused = refused 4 []
+abbrev pub indices : Result Indices BadRegister → Outcome (ℕ × ℕ)
+indices (Ok i) = value (i.first, i.second)
+indices (Err e) = refused 4 []

@@ -4,26 +4,25 @@
 -- Public document: UEFI, PCI I/O Protocol, which knows a BAR by an index from 0 to 5. It was not at
 -- hand: that the index may be that of the register or count the BARs is the Rust's reading, and
 -- both are asked.
-use Rattle.std.specs.Prelude.{ℕ, zero, suc, ◌-◌, Bool, true, false, not, ◌&&◌, ◌||◌, List, [], ◌∷◌, ◌++◌, ◌==◌}
+use Rattle.std.specs.Prelude.{ℕ, zero, suc, ◌-◌, Bool, true, false, not, ◌&&◌, ◌||◌, List, [], ◌∷◌, ◌++◌, ◌==◌, Option, Some, None}
 use Rattle.fields.specs.Outcome.{pick}
 use Rattle.bars.specs.declared.BarRange.{BarRange}
-use Rattle.bars.specs.declared.BarRange.TheVariants as b
 use Rattle.bars.specs.declared.How.{How}
 use Rattle.bars.specs.declared.How.TheVariants as h
 
 -- what PCI I/O would say about each index
 abbrev pub Table : Type 0
-Table = ℕ → BarRange
+Table = ℕ → Option BarRange
 
 -- it knows the index
-abbrev pub answers : BarRange → Bool
-answers (b.Range base length) = true
-answers b.NoAnswer = false
+abbrev pub answers : Option BarRange → Bool
+answers (Some r) = true
+answers None = false
 
 -- it knows the index, and by that base
-abbrev pub has_base : ℕ → BarRange → Bool
-has_base want (b.Range base length) = base == want
-has_base want b.NoAnswer = false
+abbrev pub has_base : ℕ → Option BarRange → Bool
+has_base want (Some r) = r.base == want
+has_base want None = false
 
 -- the indices, as they stand, that pass a test
 unfoldable pub those : (ℕ → Bool) → List ℕ → List ℕ

@@ -1,13 +1,14 @@
 -- The firmware's resource list of a BAR, from its first byte to the descriptor that answers.
 -- Document 02, Req 05; ACPI, QWORD address space descriptor and end tag; UEFI, PCI I/O Protocol,
 -- GetBarAttributes.
-use Rattle.std.specs.Prelude.{◌≡◌, ℕ, zero, suc, ◌+◌, ◌%◌, ◌^◌, ◌≤◌, not, ◌&&◌, List, [], ◌∷◌, length, ◌==◌, nat_le, slice_index, slice_index_or}
+use Rattle.std.specs.Prelude.{◌≡◌, ℕ, zero, suc, ◌+◌, ◌%◌, ◌^◌, ◌≤◌, not, ◌&&◌, List, [], ◌∷◌, length, ◌==◌, nat_le, slice_index, slice_index_or, Result, Ok, Err}
+use Rattle.std.specs.Prelude as std
 use Rattle.std.proofs.Math.Option.{Option, none, some}
 use Rattle.fields.specs.Outcome.{Outcome, value, refused, pick}
 use Rattle.fields.specs.Fields.{number_at}
 use Rattle.fields.specs.declared.Order.TheVariants.{Little}
-use Rattle.bars.specs.declared.BarList.{BarList}
-use Rattle.bars.specs.declared.BarList.TheVariants as l
+use Rattle.bars.specs.declared.BarRange.{BarRange}
+use Rattle.bars.specs.declared.BadList.{BadList}
 
 -- what a list comes to: a base and a length; no answer; or 27, with no value beside it
 abbrev pub Answer : Type 0
@@ -56,10 +57,10 @@ abbrev pub resource_at : List ℕ → Answer
 resource_at bytes = walk 0 bytes
 
 -- what each end of a walk stands for
-abbrev pub listed : BarList → Answer
-listed (l.Range base length) = value (some (base, length))
-listed l.NoAnswer = no_answer
-listed l.Bad = bad
+abbrev pub listed : Result (std.Option BarRange) BadList → Answer
+listed (Ok (std.Some r)) = value (some (r.base, r.length))
+listed (Ok std.None) = no_answer
+listed (Err e) = bad
 
 -- Document 01, the Rust's rule, which still holds of a list of one memory range: "A resource of 46
 -- bytes or more starting with 0x8a gives base at 14 and length at 38 (little-endian 64 bits); anything

@@ -6,7 +6,7 @@ ghost use Rattle.std.specs.Prelude.{◌≡◌, ◌<◌, ◌≤◌, length};
 ghost use Rattle.fields.specs.Outcome.{value_or};
 ghost use Rattle.fields.specs.Fields.{field_at};
 ghost use Rattle.fields.specs.declared.Order.TheVariants.{Little};
-ghost use Rattle.bars.specs.Bars.{is64, low_part, high_part, base_of, base_at, address, width_of, count_of, candidates_at, indices};
+ghost use Rattle.bars.specs.Bars.{is64, low_part, high_part, base_of, base_at, address, count_of, candidates_at, indices};
 ghost use Rattle.bars.specs.Resource.{resource_at, memory_in, length_in, listed};
 ghost use Rattle.bars.specs.Choose.{has_base, is_other, others_from};
 ghost use Rattle.bars.specs.Steps.{size_from, pick_of, settled_of, onward_of, judged_of, step_at, step_of, choose_at, begun};
@@ -17,44 +17,29 @@ pub const LAST: usize = 5;
 
 const INDICES: u8 = 6;
 
-// What is known of a BAR's length in bytes.
+// A register above 5: 4.
 #[derive(Clone, Copy)]
-pub enum Size {
-    Known(u64),
-    Unknown,
+pub struct BadRegister;
+
+// A resource list that is damaged or cut: 27.
+#[derive(Clone, Copy)]
+pub struct BadList;
+
+// The two indices that a BAR may have.
+#[derive(Clone, Copy)]
+pub struct Indices {
+    pub first: u8,
+    pub second: u8,
 }
 
-// The address that a BAR holds, or 4 for a register above 5.
+// The range of a BAR.
 #[derive(Clone, Copy)]
-pub enum Address {
-    At(u64),
-    Refused,
+pub struct BarRange {
+    pub base: u64,
+    pub length: u64,
 }
 
-// The two indices that a BAR may have, or 4 for a register above 5.
-#[derive(Clone, Copy)]
-pub enum Indices {
-    Both { first: u8, second: u8 },
-    Refused,
-}
-
-// What PCI I/O says about an index: the range of the BAR, or nothing.
-#[derive(Clone, Copy)]
-pub enum BarRange {
-    Range { base: u64, length: u64 },
-    NoAnswer,
-}
-
-// What a firmware's resource list says of a BAR: its range, no answer, or 27 for a list that is
-// damaged or cut.
-#[derive(Clone, Copy)]
-pub enum BarList {
-    Range { base: u64, length: u64 },
-    NoAnswer,
-    Bad,
-}
-
-impl BarList {
+impl BarRange {
     // A QWORD address space descriptor: its tag, the bytes of its header, where its type stands, and
     // the type of a memory range.
     pub const TAG: u8 = 0x8a;
@@ -86,19 +71,19 @@ pub enum How {
     NoAnswer,
 }
 
-// The chosen index, and the length that PCI I/O gave for it.
+// The chosen index, and the length that PCI I/O gave for it, if it gave one.
 #[derive(Clone, Copy)]
 pub struct Pick {
     pub index: u8,
-    pub size: Size,
+    pub size: Option<u64>,
     pub how: How,
 }
 
-// One of the two indices that a BAR may have, and what was said about it.
+// One of the two indices that a BAR may have, and what was said about it: the range of the BAR, or no answer.
 #[derive(Clone, Copy)]
 pub struct Candidate {
     pub index: u8,
-    pub answer: BarRange,
+    pub answer: Option<BarRange>,
 }
 
 // The question that is open: the first candidate, the second, or another index.
@@ -125,13 +110,6 @@ pub enum Next {
     Picked(Pick),
 }
 
-// How a choice begins: the first index to ask about, or 4 for a register above 5.
-#[derive(Clone, Copy)]
-pub enum Begun {
-    Ask(u8, Choice),
-    Refused,
-}
-
 // A BAR dword is 64-bit.
 pub fn is_64bit(dword: u32) -> bool
     ensures { result ≡ is64 dword }
@@ -144,9 +122,10 @@ fn low(dword: u32) -> u32
     ensures { result ≡ low_part dword }
 {
     if dword % 2 == 1 {
-        return dword / 4 * 4;
+        dword / 4 * 4
+    } else {
+        dword / 16 * 16
     }
-    dword / 16 * 16
 }
 
 // The high half of the address: the next dword of a 64-bit BAR, which register 5 does not have.
@@ -154,13 +133,11 @@ fn high(regs: [u32; 6], reg: usize) -> u32
     requires { reg ≤ 5 }
     ensures { result ≡ high_part regs reg }
 {
-    if reg == LAST {
-        return 0;
+    if reg < LAST && is_64bit(regs[reg]) {
+        regs[reg + 1]
+    } else {
+        0
     }
-    if is_64bit(regs[reg]) {
-        return regs[reg + 1];
-    }
-    0
 }
 
 // The address in the BAR that starts at register reg.
@@ -171,50 +148,45 @@ fn whole(regs: [u32; 6], reg: usize) -> u64
     high(regs, reg) as u64 * 4294967296 + low(regs[reg]) as u64
 }
 
-pub fn base(regs: [u32; 6], reg: usize) -> Address
+// The address in a BAR; 4 for a register above 5.
+pub fn base(regs: [u32; 6], reg: usize) -> Result<u64, BadRegister>
     ensures { address result ≡ base_at regs reg }
 {
     if LAST < reg {
-        return Address::Refused;
+        return Err(BadRegister);
     }
-    Address::At(whole(regs, reg))
+    Ok(whole(regs, reg))
 }
 
-// How many registers a BAR takes.
-fn width(dword: u32) -> usize
-    ensures { result ≡ width_of dword }
-{
-    if is_64bit(dword) {
-        return 2;
-    }
-    1
-}
-
-// How many BARs start before register reg.
+// How many BARs start before register reg: each dword starts one, unless it is the high half of a 64-bit one.
 fn count(regs: [u32; 6], reg: usize) -> u8
     requires { reg ≤ 5 }
     ensures { result ≡ count_of regs reg }
 {
-    let mut r: usize = 0;
     let mut n: u8 = 0;
-    while r < reg {
-        r = r + width(regs[r]);
-        n = n + 1;
+    let mut half = false;
+    for dword in &regs[..reg] {
+        if half {
+            half = false;
+        } else {
+            n += 1;
+            half = is_64bit(*dword);
+        }
     }
     n
 }
 
-// The indices that the BAR at register reg may have: its register number, or the count of BARs before it.
-pub fn candidates(regs: [u32; 6], reg: usize) -> Indices
+// The indices that the BAR at register reg may have: its register number, or the count of BARs before it; 4 for a register above 5.
+pub fn candidates(regs: [u32; 6], reg: usize) -> Result<Indices, BadRegister>
     ensures { indices result ≡ candidates_at regs reg }
 {
     if LAST < reg {
-        return Indices::Refused;
+        return Err(BadRegister);
     }
-    Indices::Both {
+    Ok(Indices {
         first: reg as u8,
         second: count(regs, reg),
-    }
+    })
 }
 
 // The little-endian 64 bits at off, or 0 where they pass the end.
@@ -233,79 +205,65 @@ fn length_of(descriptor: &[u8]) -> usize
 }
 
 // The range that a memory descriptor gives; 27 where it is too short for one, or not whole.
-fn memory(descriptor: &[u8]) -> BarList
+fn memory(descriptor: &[u8]) -> Result<Option<BarRange>, BadList>
     requires { 3 ≤ length descriptor.now }
     ensures { listed result ≡ memory_in descriptor.now }
 {
     let n = length_of(descriptor);
-    if n < BarList::LEAST {
-        return BarList::Bad;
+    if n < BarRange::LEAST || descriptor.len() < BarRange::HEADER + n {
+        return Err(BadList);
     }
-    if descriptor.len() < BarList::HEADER + n {
-        return BarList::Bad;
-    }
-    let minimum = number(descriptor, BarList::MINIMUM);
-    let offset = number(descriptor, BarList::OFFSET);
-    BarList::Range {
+    let minimum = number(descriptor, BarRange::MINIMUM);
+    let offset = number(descriptor, BarRange::OFFSET);
+    Ok(Some(BarRange {
         base: std::num::wrapping_add_u64(minimum, offset),
-        length: number(descriptor, BarList::LENGTH),
-    }
+        length: number(descriptor, BarRange::LENGTH),
+    }))
 }
 
-// Walks a resource list to the first memory descriptor. The end tag and an unknown tag are no answer;
-// what follows is not looked at.
-pub fn resource(bytes: &[u8]) -> BarList
+// Walks a resource list to the first memory descriptor, and gives its range. The end tag and an unknown tag are no
+// answer; what follows is not looked at. 27 where the list is damaged or cut.
+pub fn resource(bytes: &[u8]) -> Result<Option<BarRange>, BadList>
     ensures { listed result ≡ resource_at bytes.now }
 {
-    let mut at: usize = 0;
-    while at < bytes.len() {
-        let rest = &bytes[at..];
-        if rest[0] != BarList::TAG {
-            return BarList::NoAnswer;
+    let mut rest = bytes;
+    while rest.len() > 0 {
+        if rest[0] != BarRange::TAG {
+            return Ok(None);
         }
-        if rest.len() <= BarList::TYPE {
-            return BarList::Bad;
+        if rest.len() <= BarRange::TYPE {
+            return Err(BadList);
         }
-        if rest[BarList::TYPE] == BarList::MEMORY {
+        if rest[BarRange::TYPE] == BarRange::MEMORY {
             return memory(rest);
         }
-        let n = BarList::HEADER + length_of(rest);
+        let n = BarRange::HEADER + length_of(rest);
         if rest.len() < n {
-            return BarList::Bad;
+            return Err(BadList);
         }
-        at = at + n;
+        rest = &rest[n..];
     }
-    BarList::Bad
+    Err(BadList)
 }
 
-fn has_base(base: u64, answer: BarRange) -> bool
+fn has_base(base: u64, answer: Option<BarRange>) -> bool
     ensures { result ≡ has_base base answer }
 {
-    match answer {
-        BarRange::Range {
-            base: at,
-            length: _,
-        } => at == base,
-        BarRange::NoAnswer => false,
-    }
+    answer.is_some_and(|r| r.base == base)
 }
 
-fn size_from(answer: BarRange) -> Size
+fn size_from(answer: Option<BarRange>) -> Option<u64>
     ensures { result ≡ size_from answer }
 {
-    match answer {
-        BarRange::Range { base: _, length } => Size::Known(length),
-        BarRange::NoAnswer => Size::Unknown,
-    }
+    answer.map(|r| r.length)
 }
 
 fn pick_of(c: Candidate, how: How) -> Pick
     ensures { result ≡ pick_of c how }
 {
-    let answer = c.answer;
     Pick {
         index: c.index,
-        size: size_from(answer),
+        size: size_from(c.answer),
         how,
     }
 }
@@ -314,17 +272,11 @@ fn pick_of(c: Candidate, how: How) -> Pick
 fn settle(first: Candidate, second: Candidate) -> Pick
     ensures { result ≡ settled_of first second }
 {
-    let a = first.answer;
-    let b = second.answer;
-    match a {
-        BarRange::Range { base: _, length: _ } => match b {
-            BarRange::Range { base: _, length: _ } => pick_of(first, How::NoMatch),
-            BarRange::NoAnswer => pick_of(first, How::OnlyAnswer),
-        },
-        BarRange::NoAnswer => match b {
-            BarRange::Range { base: _, length: _ } => pick_of(second, How::OnlyAnswer),
-            BarRange::NoAnswer => pick_of(first, How::NoAnswer),
-        },
+    match (first.answer, second.answer) {
+        (Some(_), Some(_)) => pick_of(first, How::NoMatch),
+        (Some(_), None) => pick_of(first, How::OnlyAnswer),
+        (None, Some(_)) => pick_of(second, How::OnlyAnswer),
+        (None, None) => pick_of(first, How::NoAnswer),
     }
 }
 
@@ -332,21 +284,14 @@ fn settle(first: Candidate, second: Candidate) -> Pick
 fn is_other(first: u8, second: u8, index: u8) -> bool
     ensures { result ≡ is_other first second index }
 {
-    if index == first {
-        return false;
-    }
-    if index == second {
-        return false;
-    }
-    true
+    index != first && index != second
 }
 
 // Asks about the next index that is no candidate, starting at from, or settles where there is none below 6.
 fn onward(c: Choice, from: u8) -> Next
     ensures { result ≡ onward_of c (others_from c.first.index c.second.index from) }
 {
-    let mut i = from;
-    while i < INDICES {
+    for i in from..INDICES {
         if is_other(c.first.index, c.second.index, i) {
             return Next::Ask(
                 i,
@@ -356,7 +301,6 @@ fn onward(c: Choice, from: u8) -> Next
                 },
             );
         }
-        i = i + 1;
     }
     Next::Picked(settle(c.first, c.second))
 }
@@ -365,24 +309,19 @@ fn onward(c: Choice, from: u8) -> Next
 fn judge(c: Choice) -> Next
     ensures { result ≡ judged_of c }
 {
-    let first = c.first;
-    let second = c.second;
     if c.base == 0 {
-        return Next::Picked(settle(first, second));
+        Next::Picked(settle(c.first, c.second))
+    } else if has_base(c.base, c.first.answer) {
+        Next::Picked(pick_of(c.first, How::BaseMatches))
+    } else if has_base(c.base, c.second.answer) {
+        Next::Picked(pick_of(c.second, How::BaseMatches))
+    } else {
+        onward(c, 0)
     }
-    let a = first.answer;
-    if has_base(c.base, a) {
-        return Next::Picked(pick_of(first, How::BaseMatches));
-    }
-    let b = second.answer;
-    if has_base(c.base, b) {
-        return Next::Picked(pick_of(second, How::BaseMatches));
-    }
-    onward(c, 0)
 }
 
 // The first candidate's answer: the second is asked only if it is another.
-fn took_first(c: Choice, answer: BarRange) -> Next
+fn took_first(c: Choice, answer: Option<BarRange>) -> Next
     ensures { result ≡ step_at c answer First }
 {
     let now = Choice {
@@ -402,7 +341,7 @@ fn took_first(c: Choice, answer: BarRange) -> Next
 }
 
 // The answer about an index that is no candidate; one that PCI I/O does not have ends the scan.
-fn took_other(c: Choice, index: u8, answer: BarRange) -> Next
+fn took_other(c: Choice, index: u8, answer: Option<BarRange>) -> Next
     ensures { result ≡ step_at c answer (Other index) }
 {
     if has_base(c.base, answer) {
@@ -415,11 +354,10 @@ fn took_other(c: Choice, index: u8, answer: BarRange) -> Next
 }
 
 // The choice takes the answer to its open question.
-pub fn step(c: Choice, answer: BarRange) -> Next
+pub fn step(c: Choice, answer: Option<BarRange>) -> Next
     ensures { result ≡ step_of c answer }
 {
-    let asking = c.asking;
-    match asking {
+    match c.asking {
         Asking::First => took_first(c, answer),
         Asking::Second => judge(Choice {
             second: Candidate { answer, ..c.second },
@@ -429,27 +367,27 @@ pub fn step(c: Choice, answer: BarRange) -> Next
     }
 }
 
-// The choice for the BAR at register reg begins.
-pub fn choose(regs: [u32; 6], reg: usize) -> Begun
+// The choice for the BAR at register reg begins, with the first index to ask about; 4 for a register above 5.
+pub fn choose(regs: [u32; 6], reg: usize) -> Result<(u8, Choice), BadRegister>
     ensures { begun result ≡ choose_at regs reg }
 {
     if LAST < reg {
-        return Begun::Refused;
+        return Err(BadRegister);
     }
     let first = reg as u8;
-    Begun::Ask(
+    Ok((
         first,
         Choice {
             base: whole(regs, reg),
             first: Candidate {
                 index: first,
-                answer: BarRange::NoAnswer,
+                answer: None,
             },
             second: Candidate {
                 index: count(regs, reg),
-                answer: BarRange::NoAnswer,
+                answer: None,
             },
             asking: Asking::First,
         },
-    )
+    ))
 }

@@ -1,7 +1,6 @@
 -- WHAT STANDS BEHIND THE HEAD in the bytes of a session, read and written in place: one part, and no other, at a time.
-use Rattle.std.specs.Prelude.{ℕ, zero, suc, ◌+◌, ◌*◌, Bool, true, false, List, eqb, ltb, length}
+use Rattle.std.specs.Prelude.{ℕ, zero, suc, ◌+◌, ◌*◌, Bool, true, false, List, eqb, ltb, length, Option}
 use Rattle.fields.specs.Outcome.{pick}
-use Rattle.bars.specs.declared.Size.{Size}
 use Rattle.reset.specs.Steps as rs
 use Rattle.uar.specs.Steps as us
 use Rattle.words.specs.Places.{PORT, SLOT, SLOTS, CAP, RESET, FIND, cap_at, port1_at, port2_at, reset_at, find_at, slots_at, state_bytes}
@@ -34,7 +33,7 @@ abbrev pub slot_put : ℕ → Slot → List ℕ → List ℕ
 slot_put i v xs = pick (ltb i SLOTS) (put_part (slots_at + i * SLOT) (slot_words v) xs) xs
 
 -- WHAT A REPLY LEAVES, and a plan's task that begins
-abbrev pub noted_in : Note → Size → (outbox : List ℕ) → List ℕ → List ℕ
+abbrev pub noted_in : Note → Option ℕ → (outbox : List ℕ) → List ℕ → List ℕ
 noted_in n.Nothing z o xs = xs
 noted_in n.Cap z o xs = put_part cap_at (cap_words (cap_in o z)) xs
 noted_in (n.Port i) z o xs = put_part (pick (eqb i 1) port1_at port2_at) (port_words (port_in o i)) xs

@@ -1,12 +1,12 @@
 -- The bench values of document 01, and of document 02 the counts of comparisons (Req 04) and resource
 -- lists (Req 05), as one table. The theorem `bench_holds` of proofs/ says that the definitions give
 -- each of them.
+use Rattle.std.specs.Prelude as std
 use Rattle.std.specs.Prelude.{ℕ, ◌+◌, ◌*◌, ◌^◌, List, [], ◌∷◌, ◌++◌, ◌≡◌, length, set, replicate, take}
 use Rattle.std.proofs.Math.Option.{Option, none, some}
 use Rattle.fields.specs.Fields.{put_at}
 use Rattle.fields.specs.Outcome.{Outcome, value, refused, value_or}
 use Rattle.fields.specs.declared.Order.TheVariants.{Big, Little}
-use Rattle.bars.specs.declared.Size.TheVariants.{Unknown}
 use Rattle.bars.specs.Bars.{base_at, candidates_at}
 use Rattle.bars.specs.Resource.{resource_at}
 use Rattle.dma.specs.declared.Virt.{Virt}
@@ -44,7 +44,7 @@ then_profile (refused n vs) = refused n vs
 
 -- the layout of a capability reply, "BAR size unknown", and its listing
 abbrev pub layout_for : List ℕ → Outcome Layout
-layout_for s = then_profile (capability_of s Unknown)
+layout_for s = then_profile (capability_of s std.None)
 
 abbrev pub listing_of : List ℕ → Outcome Listing
 listing_of s = list_of (layout_for s)

@@ -1,5 +1,6 @@
 -- No call and no answer brings a count above its array: what is appended is appended where there is room. Every other step leaves the lists, or empties them. And beside it,
 -- no call but a quiesce makes a session silent.
+use Rattle.std.specs.Prelude.{Ok, Err}
 use Prim.Native.Nat.{ℕ, zero, suc, ◌-◌}
 use native.Mathlib.Omega.{arith}
 use mathlib.Core.Bool.{Bool, true, false}
@@ -33,8 +34,8 @@ use Rattle.tasks.specs.declared.Attributes.{Attributes}
 use Rattle.tasks.specs.declared.Attributes.TheVariants as at
 use Rattle.tasks.specs.declared.Claimed.{Claimed}
 use Rattle.tasks.specs.declared.Claimed.TheVariants as l
-use Rattle.uar.specs.declared.Found.{Found}
-use Rattle.uar.specs.declared.Found.TheVariants as u
+use Rattle.uar.specs.Uar.{Found}
+use Rattle.uar.specs.declared.NotFound.TheVariants as u
 use Rattle.reply.specs.Capability.{capability_of}
 use Rattle.reply.specs.Replies.{query_fw_of, fw_held, query_port_of, query_func_of}
 use Rattle.reply.specs.declared.DevCap.{DevCap}
@@ -298,9 +299,9 @@ module _ (Q : Type 0) where
   claim_in_lem s h l.Refused top = h
 
   bar_in_lem : (s : Session) → In s → (y : Found) (top : Top) → After (n.bar_plan s y top)
-  bar_in_lem s h (u.Bar y) top = h
-  bar_in_lem s h u.Refused top = h
-  bar_in_lem s h u.BadList top = h
+  bar_in_lem s h (Ok y) top = h
+  bar_in_lem s h (Err u.Refused) top = h
+  bar_in_lem s h (Err u.BadList) top = h
 
   in_in : (s : Session) → In s → (y : Made) (top : Top) → After (n.inbox_plan s y top)
   in_in s h (m.Ready y) top = h

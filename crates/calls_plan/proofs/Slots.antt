@@ -1,4 +1,5 @@
 -- ONE SLOT. No plan puts down or takes off anything: what an answer does to the slots is what `answers_by` does to the one that the stage wants, and a call that begins leaves all of them.
+use Rattle.std.specs.Prelude.{Ok, Err}
 use Prim.Native.Nat.{ℕ, zero, suc, ◌-◌}
 use native.Mathlib.Omega.{arith}
 use mathlib.Core.Bool.{Bool, true, false}
@@ -32,8 +33,8 @@ use Rattle.tasks.specs.declared.Attributes.{Attributes}
 use Rattle.tasks.specs.declared.Attributes.TheVariants as at
 use Rattle.tasks.specs.declared.Claimed.{Claimed}
 use Rattle.tasks.specs.declared.Claimed.TheVariants as l
-use Rattle.uar.specs.declared.Found.{Found}
-use Rattle.uar.specs.declared.Found.TheVariants as u
+use Rattle.uar.specs.Uar.{Found}
+use Rattle.uar.specs.declared.NotFound.TheVariants as u
 use Rattle.reply.specs.Capability.{capability_of}
 use Rattle.reply.specs.Replies.{query_fw_of, fw_held, query_port_of, query_func_of}
 use Rattle.reply.specs.declared.DevCap.{DevCap}
@@ -295,9 +296,9 @@ module _ (ls : List Slot) where
   claim_in_lem s h l.Refused top = h
 
   bar_in_lem : (s : Session) → In s → (y : Found) (top : Top) → After (n.bar_plan s y top)
-  bar_in_lem s h (u.Bar y) top = h
-  bar_in_lem s h u.Refused top = h
-  bar_in_lem s h u.BadList top = h
+  bar_in_lem s h (Ok y) top = h
+  bar_in_lem s h (Err u.Refused) top = h
+  bar_in_lem s h (Err u.BadList) top = h
 
   in_in : (s : Session) → In s → (y : Made) (top : Top) → After (n.inbox_plan s y top)
   in_in s h (m.Ready y) top = h

@@ -1,5 +1,6 @@
 -- Scripts that change nothing: they read, stall, and touch the configuration space. The claim, the attributes, the search for a BAR, the first look at the status dword;
 -- and the parting, which writes the owner's register beside.
+use Rattle.std.specs.Prelude.{Option, None, Ok}
 use Prim.Native.Nat.{ℕ, zero, suc, ◌<◌, ◌^◌}
 use native.Mathlib.Omega.{arith}
 use mathlib.Core.Bool.{Bool, true, false, false≢true}
@@ -18,15 +19,13 @@ use Rattle.bars.specs.declared.Pick.{Pick}
 use Rattle.bars.specs.declared.Candidate.{Candidate}
 use Rattle.bars.specs.Resource.{Answer as Listed, resource_at}
 use Rattle.bars.specs.declared.BarRange.{BarRange}
-use Rattle.bars.specs.declared.BarRange.TheVariants as b
 use Rattle.tasks.specs.Attributes.{or_refused, supporting, attributing}
 use Rattle.tasks.specs.declared.Attributes.{Attributes}
 use Rattle.tasks.specs.Claim.{on_owner, claiming}
 use Rattle.tasks.specs.Claim as k
 use Rattle.tasks.specs.Parting.{on_disown, releasing, restoring, quieting, commanding, on_command}
 use Rattle.uar.specs.Uar as u
-use Rattle.uar.specs.declared.Found.{Found}
-use Rattle.uar.specs.declared.Found.TheVariants as found
+use Rattle.uar.specs.Uar.{Found}
 use Rattle.bars.specs.declared.How.TheVariants as how
 use Rattle.bars.specs.Steps.{pick_of}
 use Rattle.work.specs.Work.{looking}
@@ -122,16 +121,16 @@ pub claiming_still : Stills claiming
 claiming_still = (tt, command_still)
 
 -- THE UAR BAR: a bad list asks nothing more
-list_still : (k : BarRange → Script Found) → ((a : BarRange) → Stills (k a)) → (x : Listed) → Stills (u.on_list k x)
+list_still : (k : Option BarRange → Script Found) → ((a : Option BarRange) → Stills (k a)) → (x : Listed) → Stills (u.on_list k x)
 list_still k h (value r) = h (u.range_from r)
 list_still k h (refused n vs) = tt
 
-told_still : (k : BarRange → Script Found) → ((a : BarRange) → Stills (k a)) → (r : Bus (List ℕ)) → Stills (u.on_told k r)
+told_still : (k : Option BarRange → Script Found) → ((a : Option BarRange) → Stills (k a)) → (r : Bus (List ℕ)) → Stills (u.on_told k r)
 told_still k h (good bytes) = list_still k h (resource_at bytes)
-told_still k h failed = h b.NoAnswer
+told_still k h failed = h None
 
 other_still : (base i : ℕ) (next : Script Found) → Stills next → Stills (u.other base i next)
-other_still base i next h = (tt, told_still _ (λ a. stills_pick (has_base base a) (ret (found.Bar (pick_of (u.candidate i a) how.Scan))) next tt h))
+other_still base i next h = (tt, told_still _ (λ a. stills_pick (has_base base a) (ret (Ok (pick_of (u.candidate i a) how.Scan))) next tt h))
 
 scan_still : (base : ℕ) (p : Pick) (is : List ℕ) → Stills (u.scan base p is)
 unfolding u.scan
@@ -157,7 +156,7 @@ or_found f h failed = tt
 
 reading_still : (n : ℕ) (ds : List ℕ) → Stills (u.reading n ds)
 unfolding u.reading
-reading_still zero ds = choosing_still (base_of ds 2) 2 (u.candidate (count_of ds 2) b.NoAnswer)
+reading_still zero ds = choosing_still (base_of ds 2) 2 (u.candidate (count_of ds 2) None)
 reading_still (suc n) ds = (tt, or_found _ (λ v. reading_still n (set ds (u.dword_at n) v)))
 
 pub finding_still : Stills u.finding

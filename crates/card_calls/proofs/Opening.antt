@@ -1,5 +1,6 @@
 -- The course of an opening keeps to the card rules, on any card and any host: it ends open, with the card's map exactly the ranges of the layout on their buffers; or
 -- all is given back; or all is kept.
+use Rattle.std.specs.Prelude.{Err, Ok}
 use Prim.Native.Nat.{ℕ, zero, suc, ◌+◌, ◌-◌, ◌*◌, ◌^◌, ◌<◌, ◌≤◌}
 use native.Mathlib.Omega.{arith}
 use mathlib.Core.Bool.{Bool, true, false, not, false≢true}
@@ -13,7 +14,6 @@ use Rattle.fields.specs.Outcome.{value, value_or, pick}
 use Rattle.fields.specs.Fields.{put_at}
 use Rattle.fields.specs.declared.Order.TheVariants.{Big}
 use Rattle.fields.proofs.Laws.{Bytes, length_put}
-use Rattle.bars.specs.declared.Size.{Size}
 use Rattle.dma.specs.Buffers.{pages_for}
 use Rattle.dma.specs.declared.Buffer.{Buffer}
 use Rattle.pci.specs.Script.{Spot}
@@ -48,8 +48,8 @@ use Rattle.tasks.specs.Claim.{claiming}
 use Rattle.tasks.specs.declared.Claimed.{Claimed}
 use Rattle.tasks.specs.declared.Claimed.TheVariants as l
 use Rattle.uar.specs.Uar.{finding}
-use Rattle.uar.specs.declared.Found.{Found}
-use Rattle.uar.specs.declared.Found.TheVariants as u
+use Rattle.uar.specs.Uar.{Found}
+use Rattle.uar.specs.declared.NotFound.TheVariants as u
 use Rattle.work.specs.Work.{looking}
 use Rattle.session.specs.Failures.{failure_of, fault_of, immediate_of, needs_reset}
 use Rattle.session.specs.Session.{no_books, no_info, wired, after, end_seen, imm_of, with_in_of, with_out_of, slot_at, no_slot, named, named_from, puts, fa_of, aux_of, FA, AUX, INBOX, OUTBOX}
@@ -498,10 +498,10 @@ module _ (base : ℕ → Option Hold) (P : World → Rest → Type 1) (k₀ : Ho
       (safe_still h.inbox finding (Quiet Nothing) w.host w finding_still (quiet_stable Nothing) refl k) (λ v y j fair d z. at y v j fair z)
     where
       at : (y : Found) (v : World) (j : Here) → Fair j → (v.host ≡ w.host) × Quiet Nothing v.card → SafeCourse v (on_found y n (start s) j) P
-      at (u.Bar y) v j fair z =
+      at (Ok y) v j fair z =
           safe_inbox s (with_uar n y) j v fair (subst (Owns base []) (sym z.0) i) z.1 (ap (λ (l : Host). l.inbox) z.0 ∙ p) (ap (λ (l : Host). l.outbox) z.0 ∙ o₁)
-      at u.Refused v j fair z = safe_refused s n x.Bar j v fair (subst (Owns base []) (sym z.0) i) z.1
-      at u.BadList v j fair z = safe_refused s n x.List j v fair (subst (Owns base []) (sym z.0) i) z.1
+      at (Err u.Refused) v j fair z = safe_refused s n x.Bar j v fair (subst (Owns base []) (sym z.0) i) z.1
+      at (Err u.BadList) v j fair z = safe_refused s n x.List j v fair (subst (Owns base []) (sym z.0) i) z.1
 
   -- whatever the card held or ran is gone by then
   safe_first : (s : ℕ) (n : Info) (h : Here) (w : World) → Fair h → w.host ≡ k₀ → Owns base [] w.host → w.host.inbox ≡ none → w.host.outbox ≡ none → SafeCourse w (first_reset n (start s) h) P

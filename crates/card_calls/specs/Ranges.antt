@@ -1,8 +1,7 @@
 -- The ranges that the books name, as the card has them. Document 01: "The mapped ranges are the 14
 -- that `bring_up` computes from the layout, page k of each on page k of its buffer."
-use Rattle.std.specs.Prelude.{ℕ, ◌+◌, ◌-◌, ◌/◌, ◌^◌, ◌<◌, List, [], ◌∷◌, ◌⊎◌, ◌≡◌, get_or}
+use Rattle.std.specs.Prelude.{ℕ, ◌+◌, ◌-◌, ◌/◌, ◌^◌, ◌<◌, List, [], ◌∷◌, ◌⊎◌, ◌≡◌, get_or, Option}
 use Rattle.fields.specs.Outcome.{value}
-use Rattle.bars.specs.declared.Size.{Size}
 use Rattle.dma.specs.Buffers.{pages_for}
 use Rattle.dma.specs.declared.Block.{Block}
 use Rattle.reply.specs.Capability.{capability_of}
@@ -22,7 +21,7 @@ InRanges b x d = (k : ℕ) × (k < b.lists.ranges) × OnRange (icm_at b.lists.sl
 
 -- the capabilities are those of a reply of bytes
 abbrev pub Capped : Info → Type 0
-Capped n = (s : List ℕ) × (bar : Size) × ((k : ℕ) → get_or s k 0 < 256) × (capability_of s bar ≡ value n.cap)
+Capped n = (s : List ℕ) × (bar : Option ℕ) × ((k : ℕ) → get_or s k 0 < 256) × (capability_of s bar ≡ value n.cap)
 
 -- and their layout was accepted
 abbrev pub Accepted : Info → Type 0

@@ -1,4 +1,5 @@
 -- A whole opening can end well: on a card that holds nothing and a host that has handed out nothing.
+use Rattle.std.specs.Prelude.{None}
 use Prim.Native.Nat.{ℕ, zero, suc, ◌+◌, ◌-◌, ◌*◌, ◌/◌, ◌%◌, ◌^◌, ◌≤◌, ◌<◌, max}
 use native.Mathlib.Omega.{arith}
 use mathlib.Core.Bool.{Bool, true, false, false≢true}
@@ -12,7 +13,6 @@ use borrow.Author.Tests.{eq-eqb, le-leb, ltb-true}
 use Rattle.fields.specs.Outcome.{Outcome, value, refused, pick}
 use Rattle.fields.specs.Fields.{digits, put_digits}
 use Rattle.fields.proofs.Laws.{Bytes}
-use Rattle.bars.specs.declared.Size.TheVariants as z
 use Rattle.bench.specs.Bench.{input_l}
 use Rattle.dma.specs.Buffers.{pages_for}
 use Rattle.dma.specs.PageList.{first_blocks, behind, filled_at}
@@ -191,7 +191,7 @@ cap_length = refl
 abbrev cap_l : DevCap
 cap_l = dev_cap_of cap_reply
 
-cap_accepted : capability_of cap_reply z.Unknown ≡ value cap_l
+cap_accepted : capability_of cap_reply None ≡ value cap_l
 unfolding digits put_digits read_into
 cap_accepted = refl
 
@@ -209,9 +209,9 @@ unfolding laying_out
 can_laying at page n b h w e fits room o =
     let q : profile_of n.cap ≡ value (lay_out (counts_of cap_l) cap_l.entry) = ap profile_of e ∙ cap_profile in
     value_is Ready (profile_of n.cap) (lay_out (counts_of cap_l) cap_l.entry) (λ y. set_icm_size n b h) n b h w q
-    (can_size at page n b h w fits (capped_laid n (lay_out (counts_of cap_l) cap_l.entry) (cap_reply, z.Unknown, cap_bytes, cap_accepted ∙ ap value (sym e)) q) (ap (λ (x : DevCap). x.num_sys_eqs) e ∙ cap_eqs) room o)
+    (can_size at page n b h w fits (capped_laid n (lay_out (counts_of cap_l) cap_l.entry) (cap_reply, None, cap_bytes, cap_accepted ∙ ap value (sym e)) q) (ap (λ (x : DevCap). x.num_sys_eqs) e ∙ cap_eqs) room o)
 
-can_cap : (at page : ℕ) (n : Info) (b : Books) (h : Here) (w : World) → n.uar.size ≡ z.Unknown → n.rev3 ≡ false → page + 1 + 14 * 2 ^ 25 ≤ 2 ^ 51 → Room at page w.host → At rising b w.card
+can_cap : (at page : ℕ) (n : Info) (b : Books) (h : Here) (w : World) → n.uar.size ≡ None → n.rev3 ≡ false → page + 1 + 14 * 2 ^ 25 ≤ 2 ^ 51 → Room at page w.host → At rising b w.card
     → CanCourse w (query_dev_cap n b h) Ready
 unfolding query_dev_cap query_ports
 can_cap at page n b h w u v fits room o =
@@ -222,7 +222,7 @@ can_cap at page n b h w u v fits room o =
     (subst (λ (k : ℕ). CanCourse x (query_ports k 1 (with_cap n cap_l) d (here (zeroed outbox h).inbox cap_reply no_undo)) Ready) (sym (ap (λ (t : Bool). pick t cap_l.ports 0) v))
     (can_laying at page (with_cap n cap_l) d (here (zeroed outbox h).inbox cap_reply no_undo) x refl fits (subst (Room at page) (sym s) room) i)))
 
-can_stat : (at page : ℕ) (n : Info) (b : Books) (h : Here) (w : World) → n.uar.size ≡ z.Unknown → n.rev3 ≡ false → page + 1 + 14 * 2 ^ 25 ≤ 2 ^ 51 → Room at page w.host → At rising b w.card
+can_stat : (at page : ℕ) (n : Info) (b : Books) (h : Here) (w : World) → n.uar.size ≡ None → n.rev3 ≡ false → page + 1 + 14 * 2 ^ 25 ≤ 2 ^ 51 → Room at page w.host → At rising b w.card
     → CanCourse w (mod_stat n b h) Ready
 unfolding mod_stat
 can_stat at page n b h w u v fits room o =
@@ -231,7 +231,7 @@ can_stat at page n b h w u v fits room o =
 
 -- THE FIRMWARE AREA IS MAPPED, with all that this asked for
 pub record HasFa (n : Info) (b : Books) (w : World) : Type 0 where
-  bar : n.uar.size ≡ z.Unknown
+  bar : n.uar.size ≡ None
   rev : n.rev3 ≡ false
   room : Room 3 3 w.host
   up : At rising b w.card
@@ -273,7 +273,7 @@ record Before (at : ℕ) (y : Wire) (lent : ℕ) (on : Bool) (w : World) : Type 
   new : New y lent on w.card
 
 module _ (Q : World → Rest → Type 1) (follows : (n : Info) (b : Books) (h : Here) (w : World) → HasFa n b w → CanCourse w (run_fw n b h) Q) where
-  can_query_fw : (n : Info) (b : Books) (h : Here) (w : World) → n.uar.size ≡ z.Unknown → Room 2 2 w.host → At rising b w.card → CanCourse w (query_fw n b h) Q
+  can_query_fw : (n : Info) (b : Books) (h : Here) (w : World) → n.uar.size ≡ None → Room 2 2 w.host → At rising b w.card → CanCourse w (query_fw n b h) Q
   unfolding query_fw digits
   can_query_fw n b h w u room o =
       can-sends Q b (with_out_of b 0x004 0) (λ x d j. pick (is_done x) (fw_reply n d j) (fails (fw_failure_of x) n (broken_by x d) j)) (zeroed outbox h) w rising fw_bytes fw_bytes_lem fw_length (omega arith) (omega arith) o
@@ -284,7 +284,7 @@ module _ (Q : World → Rest → Type 1) (follows : (n : Info) (b : Books) (h : 
       (record { idle = i.idle; running = i.running; broken = i.broken; silent = i.silent; lends = i.lends; started = i.started })
       (λ y j z k t. follows (with_revision n 2) y j z (record { bar = u; rev = refl; room = t; up = k }))))
 
-  can_look : (n : Info) (b : Books) (h : Here) (w : World) → n.uar.size ≡ z.Unknown → Before 2 b.wire b.lists.lends b.started w → CanCourse w (look n b h) Q
+  can_look : (n : Info) (b : Books) (h : Here) (w : World) → n.uar.size ≡ None → Before 2 b.wire b.lists.lends b.started w → CanCourse w (look n b h) Q
   unfolding look
   can_look n b h w u o =
       can-run Q (λ t d j. query_fw n (with_toggle d t) j) (So (first_toggle 0) w) neither looking b h w (can_looking w o.new.pending o.new.last)
@@ -298,14 +298,14 @@ module _ (Q : World → Rest → Type 1) (follows : (n : Info) (b : Books) (h : 
         started = o.new.started;
       })))
 
-  can_outbox : (n : Info) (b : Books) (h : Here) (w : World) → n.uar.size ≡ z.Unknown → Before 1 b.wire b.lists.lends b.started w → CanCourse w (make_outbox n b h) Q
+  can_outbox : (n : Info) (b : Books) (h : Here) (w : World) → n.uar.size ≡ None → Before 1 b.wire b.lists.lends b.started w → CanCourse w (make_outbox n b h) Q
   unfolding make_outbox
   can_outbox n b h w u o =
       can-run Q (λ y d j. on_made y (λ x. look n d j) (λ e. give_inbox e n d j)) (Grew 1 1 1 w) outbox (making 4096) b h w (can_making 4096 1 1 1 refl (omega arith) w o.room)
       (λ v y l j x. subst (λ (m : Made). CanCourse v (on_made m (λ x. look n (slotted b l) j) (λ e. give_inbox e n (slotted b l) j)) Q) (sym x.made)
       (can_look n (slotted b l) j v u (record { room = x.room; new = subst (New b.wire b.lists.lends b.started) (sym x.card) o.new })))
 
-  can_inbox : (n : Info) (b : Books) (h : Here) (w : World) → n.uar.size ≡ z.Unknown → Before 0 b.wire b.lists.lends b.started w → CanCourse w (make_inbox n b h) Q
+  can_inbox : (n : Info) (b : Books) (h : Here) (w : World) → n.uar.size ≡ None → Before 0 b.wire b.lists.lends b.started w → CanCourse w (make_inbox n b h) Q
   unfolding make_inbox
   can_inbox n b h w u o =
       can-run Q (λ y d j. on_made y (λ x. make_outbox n d j) (λ e. parted n (f.By (fault_of e)) c.Clean d j)) (Grew 1 0 0 w) inbox (making 4096) b h w (can_making 4096 1 0 0 refl (omega arith) w o.room)

@@ -1,4 +1,5 @@
 -- The other tasks can end well: on a card that does nothing of itself, and a host that hands out one handle and one page after the other.
+use Rattle.std.specs.Prelude.{None, Ok}
 use Prim.Native.Nat.{ℕ, zero, suc, ◌+◌, ◌-◌, ◌*◌, ◌/◌, ◌%◌, ◌^◌, ◌≤◌, ◌<◌, max}
 use native.Mathlib.Nat.{le-max_left}
 use native.Mathlib.Omega.{arith}
@@ -14,7 +15,6 @@ use Rattle.fields.specs.Outcome.{Outcome, value, refused, pick}
 use Rattle.fields.proofs.Outcomes.{same_value, never_refused}
 use Rattle.bars.specs.Bars.{bars}
 use Rattle.bars.specs.declared.Pick.{Pick}
-use Rattle.bars.specs.declared.Size.TheVariants as z
 use Rattle.dma.specs.Buffers.{pages_for, is_page, ends_within}
 use Rattle.hcr.specs.Words.{first_toggle}
 use Rattle.pci.specs.Script.{Script, ret, good, failed, Spot, mapped}
@@ -32,8 +32,7 @@ use Rattle.tasks.specs.declared.Attributes.TheVariants as t
 use Rattle.tasks.specs.Claim.{claiming}
 use Rattle.tasks.specs.declared.Claimed.TheVariants as l
 use Rattle.uar.specs.Uar as u
-use Rattle.uar.specs.declared.Found.{Found}
-use Rattle.uar.specs.declared.Found.TheVariants as fo
+use Rattle.uar.specs.Uar.{Found}
 use Rattle.work.specs.Work.{looking}
 use Rattle.card.specs.Card.{same, after_reset, Hold, Host, Meets, On, InUse, map_at, map_in, hand_out, World}
 use Rattle.card.proofs.Owns.{put_same, put_other}
@@ -103,8 +102,8 @@ module _ (w : World) where
 -- THE UAR BAR: no BAR is there and no index answers, so the first candidate has no size
 pub record Barless (w v : World) (x : Found) : Type 1 where
   pub bar : Pick
-  pub so : x ≡ fo.Bar bar
-  pub size : bar.size ≡ z.Unknown
+  pub so : x ≡ Ok bar
+  pub size : bar.size ≡ None
   pub world : v ≡ w
 
 pub can_finding : (w : World) → Can w u.finding (Barless w)

@@ -1,4 +1,5 @@
 -- What the machine's plans keep, so that it goes on: the lists are within their arrays, and where a call runs a task is under way.
+use Rattle.std.specs.Prelude.{Option, Some, None, Ok, Err}
 use Prim.Native.Nat.{ℕ, zero, suc, ◌-◌}
 use mathlib.Core.Bool.{Bool, true, false, false≢true}
 use mathlib.Core.List.{List}
@@ -49,10 +50,8 @@ use Rattle.tasks.specs.declared.Claimed.{Claimed}
 use Rattle.tasks.specs.declared.Claimed.TheVariants as l
 use Rattle.uar.specs.Steps.{bar_step_of}
 use Rattle.uar.specs.declared.FindBar.{FindBar}
-use Rattle.uar.specs.declared.BarEnding.{BarEnding}
-use Rattle.uar.specs.declared.BarEnding.TheVariants as bg
-use Rattle.uar.specs.declared.Found.{Found}
-use Rattle.uar.specs.declared.Found.TheVariants as u
+use Rattle.uar.specs.Uar.{Found}
+use Rattle.uar.specs.declared.NotFound.TheVariants as u
 use Rattle.reply.specs.declared.DevCap.{DevCap}
 use Rattle.reply.specs.declared.FwInfo.{FwInfo}
 use Rattle.reply.specs.declared.FuncInfo.{FuncInfo}
@@ -166,9 +165,9 @@ reset_going : (v : Work) (x : Reset) (y : ResetEnding) → IsGoing (reset_on v x
 reset_going v x rg.Going q = refl
 reset_going v x (rg.Ended z) q = absurd q
 
-bar_going : (v : Work) (x : FindBar) (y : BarEnding) → IsGoing (bar_on v x y).ending → is_resting (bar_on v x y).work.task ≡ false
-bar_going v x bg.Going q = refl
-bar_going v x (bg.Ended z) q = absurd q
+bar_going : (v : Work) (x : FindBar) (y : Option Found) → IsGoing (bar_on v x y).ending → is_resting (bar_on v x y).work.task ≡ false
+bar_going v x None q = refl
+bar_going v x (Some z) q = absurd q
 
 look_going : (v : Work) (x : DwordReply) → IsGoing (look_step v x).ending → is_resting (look_step v x).work.task ≡ false
 look_going v (dw.Got x) q = absurd q
@@ -398,9 +397,9 @@ module _ (i : List ℕ) (len : length i ≡ 4096) where
   claimed s l.Refused top = refl
 
   bar : (s : Session) (y : Found) (top : Top) → Begun (n.bar_plan s y top)
-  bar s (u.Bar y) top = refl
-  bar s u.Refused top = refl
-  bar s u.BadList top = refl
+  bar s (Ok y) top = refl
+  bar s (Err u.Refused) top = refl
+  bar s (Err u.BadList) top = refl
 
   in_made : (s : Session) (y : Made) (top : Top) → Begun (n.inbox_plan s y top)
   in_made s (m.Ready y) top = refl

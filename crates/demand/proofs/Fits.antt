@@ -1,5 +1,6 @@
 -- THE SLOT FITS THE QUESTION, at every question of every call: it is empty where pages are asked for, and holds the handle that is mapped, unmapped or freed. By the session alone, whatever the card and the
 -- host say: buffers are made in one order, and the slots of those to come are empty.
+use Rattle.std.specs.Prelude.{Ok, Err}
 use Prim.Native.Nat.{ℕ, zero, suc, ◌+◌, ◌*◌, ◌-◌, ◌≤◌, ◌<◌}
 use native.Mathlib.Omega.{arith}
 use native.Mathlib.Nat.{le_trans}
@@ -49,8 +50,8 @@ use Rattle.tasks.specs.declared.Attributes.TheVariants as at
 use Rattle.tasks.specs.declared.Claimed.{Claimed}
 use Rattle.tasks.specs.declared.Claimed.TheVariants as l
 use Rattle.uar.specs.declared.FindBar.{FindBar}
-use Rattle.uar.specs.declared.Found.{Found}
-use Rattle.uar.specs.declared.Found.TheVariants as u
+use Rattle.uar.specs.Uar.{Found}
+use Rattle.uar.specs.declared.NotFound.TheVariants as u
 use Rattle.reply.specs.Capability.{capability_of}
 use Rattle.reply.specs.Replies.{query_fw_of, fw_held, query_port_of, query_func_of}
 use Rattle.reply.specs.declared.DevCap.{DevCap}
@@ -690,9 +691,9 @@ claim_fits s h l.Refused top = onto _ (late 0 s.books.lists h) tt tt
 -- the mailboxes are made first
 bar_fits : (s : Session) → Was 0 s.books.lists → (y : Found) (top : Top) → After (n.bar_plan s y top)
 unfolding rank
-bar_fits s h (u.Bar y) top = onto _ (more 0 1 s.books.lists (lit≤ tt) (omega arith) h) tt (lit≤ tt, lit≤ tt, h.empty INBOX (lit≤ tt))
-bar_fits s h u.Refused top = onto _ (late 0 s.books.lists h) tt tt
-bar_fits s h u.BadList top = onto _ (late 0 s.books.lists h) tt tt
+bar_fits s h (Ok y) top = onto _ (more 0 1 s.books.lists (lit≤ tt) (omega arith) h) tt (lit≤ tt, lit≤ tt, h.empty INBOX (lit≤ tt))
+bar_fits s h (Err u.Refused) top = onto _ (late 0 s.books.lists h) tt tt
+bar_fits s h (Err u.BadList) top = onto _ (late 0 s.books.lists h) tt tt
 
 in_fits : (s : Session) → Was 1 s.books.lists → (y : Made) (top : Top) → After (n.inbox_plan s y top)
 unfolding rank

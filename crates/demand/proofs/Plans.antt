@@ -1,4 +1,5 @@
 -- What the machine's plans keep: between two calls nothing is under way; a closing has no buffer in hand until it frees, and a closing that frees does not say kept.
+use Rattle.std.specs.Prelude.{Option, Some, None, Ok, Err}
 use Prim.Native.Nat.{ℕ, zero, suc, ◌-◌}
 use mathlib.Core.Bool.{Bool, true, false}
 use mathlib.Core.List.{List}
@@ -47,10 +48,8 @@ use Rattle.tasks.specs.declared.Claimed.{Claimed}
 use Rattle.tasks.specs.declared.Claimed.TheVariants as l
 use Rattle.uar.specs.Steps.{bar_step_of}
 use Rattle.uar.specs.declared.FindBar.{FindBar}
-use Rattle.uar.specs.declared.BarEnding.{BarEnding}
-use Rattle.uar.specs.declared.BarEnding.TheVariants as bg
-use Rattle.uar.specs.declared.Found.{Found}
-use Rattle.uar.specs.declared.Found.TheVariants as u
+use Rattle.uar.specs.Uar.{Found}
+use Rattle.uar.specs.declared.NotFound.TheVariants as u
 use Rattle.reply.specs.declared.DevCap.{DevCap}
 use Rattle.reply.specs.declared.FwInfo.{FwInfo}
 use Rattle.reply.specs.declared.FuncInfo.{FuncInfo}
@@ -224,9 +223,9 @@ reset_going : (v : Work) (x : Reset) (y : ResetEnding) → NoHost (reset_on v x 
 reset_going v x rg.Going = tt
 reset_going v x (rg.Ended z) = tt
 
-bar_going : (v : Work) (x : FindBar) (y : BarEnding) → NoHost (bar_on v x y).work.task
-bar_going v x bg.Going = tt
-bar_going v x (bg.Ended z) = tt
+bar_going : (v : Work) (x : FindBar) (y : Option Found) → NoHost (bar_on v x y).work.task
+bar_going v x None = tt
+bar_going v x (Some z) = tt
 
 look_going : (v : Work) (x : DwordReply) → NoHost (look_step v x).work.task
 look_going v (dw.Got x) = tt
@@ -520,9 +519,9 @@ module _ (C P D : Type 0) (T : Task → Type 0) where
     claim-suited s l.Refused top = (op.1, tt)
 
     bar-suited : (s : Session) (y : Found) (top : Top) → Lawful (n.bar_plan s y top)
-    bar-suited s (u.Bar y) top = on _ tt
-    bar-suited s u.Refused top = (op.1, tt)
-    bar-suited s u.BadList top = (op.1, tt)
+    bar-suited s (Ok y) top = on _ tt
+    bar-suited s (Err u.Refused) top = (op.1, tt)
+    bar-suited s (Err u.BadList) top = (op.1, tt)
 
     in-suited : (s : Session) (y : Made) (top : Top) → Lawful (n.inbox_plan s y top)
     in-suited s (m.Ready y) top = on _ tt

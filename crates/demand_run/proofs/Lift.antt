@@ -1,5 +1,6 @@
 -- A RUN BY VALUE GOES ON BYTES: an event that is taken by value is taken on bytes that hold the
 -- session, and leaves bytes that hold the session behind it.
+use Rattle.std.specs.Prelude as std
 use Prim.Native.Nat.{ℕ, zero, suc, ◌+◌, ◌*◌, ◌≤◌, ◌<◌, ◌^◌}
 use native.Mathlib.Omega.{arith}
 use mathlib.Core.Bool.{Bool, true, false, ◌&&◌, false≢true}
@@ -25,7 +26,6 @@ use Rattle.intask.specs.InTask.{beside_in}
 use Rattle.booking.specs.Booking.{is_deal, left_at, slot_left}
 use Rattle.opening.specs.Notes.{note_in}
 use Rattle.bytes_plan.specs.Left.{headed_in, left_in, answer_left, cleared_in, call_left}
-use Rattle.bars.specs.declared.Size.{Size}
 use Rattle.reset.specs.Steps as rs
 use Rattle.uar.specs.Steps as us
 use Rattle.work.specs.Work.{work_step_of}
@@ -254,7 +254,7 @@ begun_slice g t.Look st h = h
 begun_slice g (t.Cmd y) st h = h
 begun_slice g (t.Part y) st h = h
 
-noted_slice : (y : Note) (z : Size) (o st : List ℕ) → Slice st → Slice (noted_in y z o st)
+noted_slice : (y : Note) (z : std.Option ℕ) (o st : List ℕ) → Slice st → Slice (noted_in y z o st)
 noted_slice n.Nothing z o st h = h
 noted_slice n.Cap z o st h = part_slice cap_at (cap_words (cap_in o z)) st h
 noted_slice (n.Port i) z o st h = part_slice (pick (eqb i 1) port1_at port2_at) (port_words (port_in o i)) st h

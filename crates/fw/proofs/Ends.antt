@@ -1,4 +1,5 @@
 -- A TASK HAS ENDED: what is left then is what the definition says of the session that the bytes held.
+use Rattle.std.specs.Prelude.{Option}
 use Prim.Native.Nat.{ℕ, ◌≤◌}
 use mathlib.Core.Path.{◌≡◌, refl, ap, sym, subst, ◌∙◌}
 use mathlib.Core.List.{List}
@@ -9,7 +10,6 @@ use Rattle.words_session.specs.Image.{decode_of}
 use Rattle.words_laws.specs.Kept.{Rewritten, Rewrites}
 use Rattle.work.specs.declared.End.{End}
 use Rattle.work.specs.declared.Ending.TheVariants.{Ended}
-use Rattle.bars.specs.declared.Size.{Size}
 use Rattle.session.specs.Core.{Behind, full, plan_in, noted}
 use Rattle.session.specs.declared.Note.{Note}
 use Rattle.session.specs.declared.Core.{Core}
@@ -26,7 +26,7 @@ use Rattle.fw_begin.specs.declared.Said.{Said}
 use Rattle.fw.specs.Follow.{noted_by, Leads}
 
 -- what a reply leaves is noted, by its name
-pub note_is : (n n' : Note) (z : Size) (o xs zs : List ℕ) → n ≡ n' → zs ≡ noted_in n z o xs → Rewrites xs zs (noted n z o (behind_in xs))
+pub note_is : (n n' : Note) (z : Option ℕ) (o xs zs : List ℕ) → n ≡ n' → zs ≡ noted_in n z o xs → Rewrites xs zs (noted n z o (behind_in xs))
     → (zs ≡ noted_in n' z o xs) × Rewrites xs zs (noted n' z o (behind_in xs))
 note_is n n' z o xs zs e d h = (d ∙ ap (λ (k : Note). noted_in k z o xs) e, subst (λ (k : Note). Rewrites xs zs (noted k z o (behind_in xs))) e h)
 

@@ -1,4 +1,5 @@
 -- WHAT IS LEFT OF A SESSION by an answer, in its parts.
+use Rattle.std.specs.Prelude.{Option}
 use Prim.Native.Nat.{ℕ, ◌<◌, ◌≤◌}
 use mathlib.Core.Bool.{Bool, true, false}
 use mathlib.Core.Path.{◌≡◌, refl, ap, sym, subst, ◌∙◌}
@@ -7,7 +8,6 @@ use borrow.Author.Tests.{ltb-true, ltb-false}
 use lib.Dec.{ltb}
 use lib.ListN.{length}
 use Rattle.fields.specs.Outcome.{value, pick}
-use Rattle.bars.specs.declared.Size.{Size}
 use Rattle.words.specs.Places.{state_bytes}
 use Rattle.words_task.specs.Fits.{TaskFits}
 use Rattle.words_session.specs.Image.{put_task, decode_of}
@@ -94,7 +94,7 @@ unfolding Keeps
 task_keeps s k xs ys fit e d = ap decode_of e ∙ parts_decode _ _ (put_task_lem xs s (behind_in xs) k fit (decode_parts xs _ d))
 
 -- a reply is noted
-pub noted_by_lem : (y n : Note) (z : Size) (o xs zs : List ℕ) → y ≡ n → zs ≡ noted_in n z o xs → NoteFits n z o
+pub noted_by_lem : (y n : Note) (z : Option ℕ) (o xs zs : List ℕ) → y ≡ n → zs ≡ noted_in n z o xs → NoteFits n z o
     → (zs ≡ noted_in y z o xs) × Rewrites xs zs (noted y z o (behind_in xs))
 noted_by_lem y n z o xs zs e d fit =
     subst (λ (k : Note). (zs ≡ noted_in k z o xs) × Rewrites xs zs (noted k z o (behind_in xs))) (sym e)

@@ -13,7 +13,6 @@ ghost use Rattle.abi.specs.Kept.{Keeps};
 ghost use Rattle.fw_begin.specs.Begins.{said_of};
 ghost use Rattle.fw_step.specs.Step as e;
 
-use bars::Size;
 use fw_begin::Said;
 use fw_plan::Wipe;
 use pci::{Answer, HandleReply, Question};
@@ -155,7 +154,7 @@ pub fn go_on(
 }
 
 // What a reply in the outbox leaves behind the head is written.
-pub fn put_note(m: &mut [u8], note: Note, size: Size, outbox: &[u8])
+pub fn put_note(m: &mut [u8], note: Note, size: Option<u64>, outbox: &[u8])
     ensures m_after { m.new ≡ noted_in note size outbox.now m.old }
     ensures rewrites { Rewrites m.old m.new (noted note size outbox.now (behind_in m.old)) }
 {

@@ -1,4 +1,5 @@
 -- A task that is neither a reset nor the search for the UAR BAR looks at neither.
+use Rattle.std.specs.Prelude.{Option, Some, None}
 use Prim.Native.Nat.{ℕ}
 use mathlib.Core.Bool.{Bool, true, false}
 use mathlib.Core.Path.{◌≡◌, refl, ap}
@@ -31,8 +32,7 @@ use Rattle.reset.specs.declared.Reset.{Reset}
 use Rattle.reset.specs.declared.Ending.{Ending as ResetEnding}
 use Rattle.reset.specs.declared.Ending.TheVariants as rg
 use Rattle.uar.specs.Steps.{bar_step_of}
-use Rattle.uar.specs.declared.BarEnding.{BarEnding}
-use Rattle.uar.specs.declared.BarEnding.TheVariants as bg
+use Rattle.uar.specs.Uar.{Found}
 use Rattle.uar.specs.declared.FindBar.{FindBar}
 use Rattle.work.specs.Work.{working, work_asks, work_step_of, attr_work, claim_work, make_work, free_work, cmd_work, part_work, look_step, reset_on, bar_on}
 use Rattle.work.specs.declared.Task.{Task}
@@ -134,11 +134,11 @@ pub reset_steps_lem : (r : Reset) (f g : FindBar) (a : Answer) (bs xs : List ℕ
     × (beside_in t.Reset (work_step_of (working t.Reset r f) a bs) xs ≡ beside_in t.Reset (work_step_of (working t.Reset r g) a bs) xs)
 reset_steps_lem r f g a bs xs = reset_on_lem f g r (reset_step_of r a).reset xs (reset_step_of r a).ending
 
-bar_on_lem : (r v : Reset) (f g : FindBar) (xs : List ℕ) (e : BarEnding)
+bar_on_lem : (r v : Reset) (f g : FindBar) (xs : List ℕ) (e : Option Found)
     → (going_of (bar_on (working t.Bar r f) g e) ≡ going_of (bar_on (working t.Bar v f) g e))
     × (beside_in t.Bar (bar_on (working t.Bar r f) g e) xs ≡ beside_in t.Bar (bar_on (working t.Bar v f) g e) xs)
-bar_on_lem r v f g xs bg.Going = (refl, refl)
-bar_on_lem r v f g xs (bg.Ended x) = (refl, refl)
+bar_on_lem r v f g xs None = (refl, refl)
+bar_on_lem r v f g xs (Some x) = (refl, refl)
 
 pub bar_steps : (r v : Reset) (f : FindBar) (a : Answer) (bs xs : List ℕ)
     → (going_of (work_step_of (working t.Bar r f) a bs) ≡ going_of (work_step_of (working t.Bar v f) a bs))

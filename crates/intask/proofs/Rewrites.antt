@@ -1,4 +1,5 @@
 -- What a step leaves behind the head: a reset's task the reset, the search's task the search, any other task both.
+use Rattle.std.specs.Prelude.{Option, Some, None}
 use Prim.Native.Nat.{ℕ}
 use mathlib.Core.Bool.{true}
 use mathlib.Core.Path.{◌≡◌, refl, ap, sym, subst, ◌∙◌}
@@ -38,8 +39,7 @@ use Rattle.reset.specs.declared.Ending.{Ending as ResetEnding}
 use Rattle.reset.specs.declared.Ending.TheVariants as rg
 use Rattle.uar.specs.Steps.{bar_step_of}
 use Rattle.uar.specs.Steps as us
-use Rattle.uar.specs.declared.BarEnding.{BarEnding}
-use Rattle.uar.specs.declared.BarEnding.TheVariants as bg
+use Rattle.uar.specs.Uar.{Found}
 use Rattle.uar.specs.declared.FindBar.{FindBar}
 use Rattle.work.specs.Work.{working, work_step_of, attr_work, claim_work, make_work, free_work, cmd_work, part_work, look_step, reset_on, bar_on}
 use Rattle.work.specs.declared.Task.{Task}
@@ -128,10 +128,10 @@ reset_rewrites s z a bs v fit e d =
     (subst (λ (b : Behind). Rewrites s (put_part reset_at (reset_words v) s) b) (resets a bs (behind_in s) v d) (rewrites_reset s v fit))
 
 -- the search leaves the reset, and does not look at it
-bar_leaves : (r v : Reset) (f g : FindBar) (e : BarEnding)
+bar_leaves : (r v : Reset) (f g : FindBar) (e : Option Found)
     → ((bar_on (working t.Bar v f) g e).work.reset ≡ v) × ((bar_on (working t.Bar v f) g e).work.find ≡ (bar_on (working t.Bar r f) g e).work.find)
-bar_leaves r v f g bg.Going = (refl, refl)
-bar_leaves r v f g (bg.Ended x) = (refl, refl)
+bar_leaves r v f g None = (refl, refl)
+bar_leaves r v f g (Some x) = (refl, refl)
 
 finds : (a : Answer) (bs : List ℕ) (b : Behind) (v : FindBar) → v ≡ (work_step_of (working t.Bar rs.started b.find) a bs).work.find
     → behind b.reset v b.cap b.port1 b.port2 b.slots ≡ beside_of (work_step_of (working t.Bar b.reset b.find) a bs) b

@@ -1,4 +1,5 @@
 -- The layouts of cards: the counts of any reply are such that the laws of layouts hold of them.
+use Rattle.std.specs.Prelude.{Option}
 use Prim.Native.Nat.{ℕ, zero, suc, zero-le, ◌+◌, ◌-◌, ◌*◌, ◌^◌, ◌≤◌, ◌<◌, min}
 use mathlib.Core.Bool.{Bool, true, false}
 use mathlib.Core.Path.{◌≡◌, refl, sym, subst, ◌∙◌}
@@ -12,7 +13,6 @@ use lib.Pow.{pow_mono}
 use lib.Seq.{get_or-set_other}
 use Rattle.fields.specs.Outcome.{value, pick}
 use Rattle.fields.proofs.Laws.{Bytes}
-use Rattle.bars.specs.declared.Size.{Size}
 use Rattle.reply.specs.declared.DevCap.{DevCap}
 use Rattle.reply.specs.Capability.{Bounds, capability_of}
 use Rattle.reply.proofs.Bounded.{decoded_bounds, accepted_is}
@@ -144,7 +144,7 @@ module _ (c : DevCap) (b : Bounds c) (p : (i : ℕ) → i < length c.entry → P
       subst (λ (x : Layout). GoodLayout (counts_of c) c.entry x × GoodRanges x × (x.total < 2 ^ 42)) (sym a.2) r
 
 -- Any reply that is accepted, with its layout: the layout and its ranges are good, and the total is below 2^42.
-pub profile_good : (s : List ℕ) (bar : Size) (c : DevCap) (l : Layout) → Bytes s → capability_of s bar ≡ value c → profile_of c ≡ value l
+pub profile_good : (s : List ℕ) (bar : Option ℕ) (c : DevCap) (l : Layout) → Bytes s → capability_of s bar ≡ value c → profile_of c ≡ value l
     → GoodLayout (counts_of c) c.entry l × GoodRanges l × (l.total < 2 ^ 42)
 profile_good s bar c l bs e q =
     let b = subst Bounds (sym (accepted_is s bar c e)) (decoded_bounds s bs) in

@@ -4,7 +4,6 @@
 
 ghost use Rattle.std.specs.Prelude.{◌≤◌, length, IfOk};
 
-use bars::Size;
 use layout::{Fit, Layout, Table};
 use reply::{CapCheck, DevCap, Kind};
 use std::io;
@@ -73,7 +72,7 @@ fn read_full(input: &mut impl Read, buf: &mut [u8]) -> io::Result<usize>
 fn main(rt: HostRuntime) -> io::Result<()> {
     let mut space = [0u8; 4096];
     let n = read_full(&mut rt.stdin(), &mut space)?;
-    let c = reply::dev_cap(&space[..n], Size::Unknown);
+    let c = reply::dev_cap(&space[..n], None);
     let check = c.check;
     match check {
         CapCheck::Good => lay_out(&rt, c.cap),

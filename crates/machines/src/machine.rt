@@ -4,7 +4,7 @@ use command::{Cmd, CmdEnd, CmdResult, CmdStep};
 use pci::{Answer, Question};
 use reset::{Ending, Reset, ResetEnd};
 use tasks::{Attr, AttrStep, Attributes, Claim, ClaimStep, Claimed, Parting, PartingStep};
-use uar::{BarEnding, FindBar, Found};
+use uar::{FindBar, NotFound};
 
 // How a machine ended: document 01's number, or 0, and values.
 #[derive(Clone, Copy)]
@@ -210,20 +210,18 @@ fn picked(p: bars::Pick) -> End {
     )
 }
 
-fn bar_end(e: Found) -> End {
+fn bar_end(e: Result<bars::Pick, NotFound>) -> End {
     match e {
-        Found::Bar(p) => picked(p),
-        Found::Refused => end_with(4, 0, 0, 0, 0),
-        Found::BadList => end_with(27, 0, 0, 0, 0),
+        Ok(p) => picked(p),
+        Err(NotFound::Refused) => end_with(4, 0, 0, 0, 0),
+        Err(NotFound::BadList) => end_with(27, 0, 0, 0, 0),
     }
 }
 
 fn found(m: Machine, a: Answer, list: &[u8]) -> Machine {
     let s = m.find.step(a, list);
-    let find = s.find;
-    let ending = s.ending;
-    match ending {
-        BarEnding::Going => Machine { find, ..m },
-        BarEnding::Ended(e) => on(m, Task::Over(bar_end(e))),
+    match s.ending {
+        None => Machine { find: s.find, ..m },
+        Some(e) => on(m, Task::Over(bar_end(e))),
     }
 }

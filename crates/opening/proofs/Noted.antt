@@ -1,10 +1,10 @@
 -- What stands behind the head once a reply was noted, and what follows from what stood there before.
+use Rattle.std.specs.Prelude.{Option}
 use Prim.Native.Nat.{ℕ}
 use mathlib.Core.Bool.{Bool, true, false}
 use mathlib.Core.List.{List}
 use mathlib.Core.Path.{◌≡◌, refl, ap, sym, ◌∙◌}
 use Rattle.fields.specs.Outcome.{Outcome, value, refused, value_or, pick}
-use Rattle.bars.specs.declared.Size.{Size}
 use Rattle.reply.specs.Capability.{capability_of, no_caps}
 use Rattle.reply.specs.Replies.{query_port_of, no_port}
 use Rattle.reply.specs.declared.DevCap.{DevCap}
@@ -38,7 +38,7 @@ module _ (y : End) {x : CmdEnd} {z : Bool} (v : Note) (e : x ≡ cmd_in y) (i : 
   pub note_bad : z ≡ false → n.Nothing ≡ pick (is_done (cmd_in y).result) v n.Nothing
   note_bad h = sym (ap (λ (t : Bool). pick t v n.Nothing) (ap (λ (u : CmdEnd). is_done u.result) (sym e) ∙ sym i ∙ h))
 
-module _ (z : Size) (o : List ℕ) (b : Behind) where
+module _ (z : Option ℕ) (o : List ℕ) (b : Behind) where
   cap_by : (v : Outcome DevCap) → capability_of o z ≡ v → noted (value_note n.Cap v) z o b ≡ after_cap v b
   cap_by (value c) h = ap (λ (u : Outcome DevCap). capped (value_or no_caps u) b) h
   cap_by (refused i vs) h = refl

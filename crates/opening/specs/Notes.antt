@@ -1,7 +1,6 @@
 -- WHAT A REPLY LEAVES behind the head when its command has ended: it is noted before the plan runs, so that the plan finds it there.
-use Rattle.std.specs.Prelude.{ℕ, List, ◌≡◌}
+use Rattle.std.specs.Prelude.{ℕ, List, ◌≡◌, Option}
 use Rattle.fields.specs.Outcome.{Outcome, value, refused, pick}
-use Rattle.bars.specs.declared.Size.{Size}
 use Rattle.reply.specs.Capability.{capability_of}
 use Rattle.reply.specs.Replies.{query_port_of}
 use Rattle.work.specs.declared.End.{End}
@@ -25,13 +24,13 @@ value_note y (value v) = y
 value_note y (refused i vs) = n.Nothing
 
 -- the capabilities, and a port
-abbrev pub cap_note : Size → End → (outbox : List ℕ) → Note
+abbrev pub cap_note : Option ℕ → End → (outbox : List ℕ) → Note
 cap_note z y o = pick (is_done (cmd_in y).result) (value_note n.Cap (capability_of o z)) n.Nothing
 
 abbrev pub port_note : ℕ → End → (outbox : List ℕ) → Note
 port_note i y o = pick (is_done (cmd_in y).result) (value_note (n.Port i) (query_port_of o i)) n.Nothing
 
-abbrev pub boot_note : Size → Boot → End → (outbox : List ℕ) → Note
+abbrev pub boot_note : Option ℕ → Boot → End → (outbox : List ℕ) → Note
 boot_note z k.QueryFw y o = n.Nothing
 boot_note z (k.Make a) y o = n.Nothing
 boot_note z (k.Map a c) y o = n.Nothing
@@ -44,7 +43,7 @@ boot_note z k.InitHca y o = n.Nothing
 boot_note z k.Func y o = n.Nothing
 boot_note z k.Adapter y o = n.Nothing
 
-abbrev pub note_at : Size → Stage → End → (outbox : List ℕ) → Note
+abbrev pub note_at : Option ℕ → Stage → End → (outbox : List ℕ) → Note
 note_at z g.Fresh y o = n.Nothing
 note_at z (g.Open v) y o = n.Nothing
 note_at z g.Ended y o = n.Nothing

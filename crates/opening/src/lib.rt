@@ -14,7 +14,6 @@ ghost use Rattle.behind.specs.Behind.{behind_in};
 ghost use Rattle.opening_plan.specs.Plan as p;
 ghost use Rattle.opening.specs.Notes as n;
 
-use bars::Size;
 use command::CmdEnd;
 use hcr::Op;
 use pci::Refusal;
@@ -23,7 +22,7 @@ use session::{Area, Boot, Closing, Core, Failure, Fill, Gave, Note, Plan, Stage,
 use work::{End, Task};
 
 // The note of a reply with capabilities, of one on a port; nothing of a reply that is refused.
-fn cap_value(outbox: &[u8], size: Size) -> Note
+fn cap_value(outbox: &[u8], size: Option<u64>) -> Note
     ensures { result ≡ n.value_note o.Cap (capability_of outbox.now size) }
 {
     let y = reply::dev_cap(outbox, size);
@@ -49,7 +48,7 @@ fn port_value(outbox: &[u8], i: u8) -> Note
 }
 
 // Nothing of a command that was not good.
-fn cap_note(end: End, outbox: &[u8], size: Size) -> Note
+fn cap_note(end: End, outbox: &[u8], size: Option<u64>) -> Note
     ensures { result ≡ n.cap_note size end outbox.now }
 {
     let x = giving::cmd_in(end);
@@ -71,7 +70,7 @@ fn port_note(end: End, outbox: &[u8], i: u8) -> Note
     Note::Nothing
 }
 
-fn boot_note(stage: Boot, end: End, outbox: &[u8], size: Size) -> Note
+fn boot_note(stage: Boot, end: End, outbox: &[u8], size: Option<u64>) -> Note
     ensures { result ≡ n.boot_note size stage end outbox.now }
 {
     match stage {
@@ -90,7 +89,7 @@ fn boot_note(stage: Boot, end: End, outbox: &[u8], size: Size) -> Note
 }
 
 // What the reply in the outbox leaves behind the head, by what the task that has ended was for.
-pub fn note_of(stage: Stage, end: End, outbox: &[u8], size: Size) -> Note
+pub fn note_of(stage: Stage, end: End, outbox: &[u8], size: Option<u64>) -> Note
     ensures { result ≡ n.note_at size stage end outbox.now }
 {
     match stage {

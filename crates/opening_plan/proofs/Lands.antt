@@ -1,4 +1,5 @@
 -- Each plan of an opening begins what its course says.
+use Rattle.std.specs.Prelude.{Ok, Err}
 use Prim.Native.Nat.{ℕ, suc, ◌+◌, ◌*◌, ◌/◌, ◌-◌, ◌<◌, ◌≤◌, ◌%◌, ◌^◌}
 use mathlib.Core.Bool.{Bool, true, false}
 use mathlib.Core.List.{List}
@@ -46,8 +47,8 @@ use Rattle.tasks.specs.Claim.{claiming}
 use Rattle.tasks.specs.declared.Claimed.{Claimed}
 use Rattle.tasks.specs.declared.Claimed.TheVariants as l
 use Rattle.uar.specs.Steps.{started, bar_script}
-use Rattle.uar.specs.declared.Found.{Found}
-use Rattle.uar.specs.declared.Found.TheVariants as u
+use Rattle.uar.specs.Uar.{Found}
+use Rattle.uar.specs.declared.NotFound.TheVariants as u
 use Rattle.work.specs.Work.{looking}
 use Rattle.work.specs.declared.Task.TheVariants as t
 use Rattle.work.specs.declared.End.{End}
@@ -314,9 +315,9 @@ inbox_leads s (m.Refused y) h = part_leads s (fault_of y) s.books h
 
 bar_leads : (s : Session) (y : Found) (h : Here) → leads (bar_plan s y h.undo) h ≡ on_found y s.info s.books h
 unfolding make_inbox prepare_course
-bar_leads s (u.Bar y) h = run_turned inbox (allocating 1) (λ v. e.Made v) (λ v d j. after_prepare p.Inbox (bookkeeps (informs s (with_uar s.info y)) d) v j) s.books h
-bar_leads s u.Refused h = part_leads s x.Bar s.books h
-bar_leads s u.BadList h = part_leads s x.List s.books h
+bar_leads s (Ok y) h = run_turned inbox (allocating 1) (λ v. e.Made v) (λ v d j. after_prepare p.Inbox (bookkeeps (informs s (with_uar s.info y)) d) v j) s.books h
+bar_leads s (Err u.Refused) h = part_leads s x.Bar s.books h
+bar_leads s (Err u.BadList) h = part_leads s x.List s.books h
 
 reset_leads : (s : Session) (y : End) (h : Here) → leads (reset_plan s (reset_in y) h.undo) h ≡ after_prepare p.Reset s y h
 unfolding find_uar prepare_course

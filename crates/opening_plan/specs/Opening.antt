@@ -2,7 +2,7 @@
 -- port at revision 3, layout, SET_ICM_SIZE, MAP_ICM_AUX, 14 MAP_ICM, INIT_HCA, QUERY_FUNC if num_sys_eqs is not 0, QUERY_ADAPTER (any failure passed over)."
 -- Before it, as the Rust's `open` and `start`: attributes, claim, reset, the UAR BAR, both mailboxes, the first look at the status dword. It is written from the
 -- last step to the first. "An opening fails by the first other failure, returned after closing has run, with closing's result beside it."
-use Rattle.std.specs.Prelude.{ℕ, zero, suc, ◌*◌, ◌%◌, ◌^◌, List, eqb, length}
+use Rattle.std.specs.Prelude.{ℕ, zero, suc, ◌*◌, ◌%◌, ◌^◌, List, eqb, length, Ok, Err}
 use Rattle.fields.specs.Outcome.{Outcome, value, refused, pick}
 use Rattle.dma.specs.Blocks.{}
 use Rattle.dma.specs.PageList.{first_blocks, behind, filled_at}
@@ -27,8 +27,8 @@ use Rattle.tasks.specs.Claim.{claiming}
 use Rattle.tasks.specs.declared.Claimed.{Claimed}
 use Rattle.tasks.specs.declared.Claimed.TheVariants as l
 use Rattle.uar.specs.Uar.{finding}
-use Rattle.uar.specs.declared.Found.{Found}
-use Rattle.uar.specs.declared.Found.TheVariants as u
+use Rattle.uar.specs.Uar.{Found}
+use Rattle.uar.specs.declared.NotFound.TheVariants as u
 use Rattle.work.specs.Work.{looking}
 use Rattle.session.specs.Failures.{broken_by, failure_of, fault_of, immediate_of, needs_reset}
 use Rattle.session.specs.Session.{no_books, no_info, imm_of, with_in_of, with_out_of}
@@ -165,10 +165,10 @@ make_inbox n b h =
     run inbox (making 4096) (λ y d j. on_made y (λ x. make_outbox n d j) (λ e. parted n (f.By (fault_of e)) c.Clean d j)) b h
 
 abbrev pub on_found : Found → Info → Books → Here → Course Rest
-on_found (u.Bar p) n b h = make_inbox (with_uar n p) b h
-on_found u.Refused n b h = parted n (f.By x.Bar) c.Clean b h
+on_found (Ok p) n b h = make_inbox (with_uar n p) b h
+on_found (Err u.Refused) n b h = parted n (f.By x.Bar) c.Clean b h
 -- 27 "stands where 4 does"
-on_found u.BadList n b h = parted n (f.By x.List) c.Clean b h
+on_found (Err u.BadList) n b h = parted n (f.By x.List) c.Clean b h
 
 unfoldable pub find_uar : Info → Books → Here → Course Rest
 find_uar n b h = task finding (λ y d j. on_found y n d j) b h

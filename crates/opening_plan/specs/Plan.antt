@@ -1,5 +1,5 @@
 -- The plan of an opening: what follows when a task has ended, as a function on the session and on the outbox as it is lent then.
-use Rattle.std.specs.Prelude.{ℕ, suc, ◌+◌, ◌*◌, ◌-◌, ◌%◌, ◌^◌, Bool, true, List, eqb, ltb}
+use Rattle.std.specs.Prelude.{ℕ, suc, ◌+◌, ◌*◌, ◌-◌, ◌%◌, ◌^◌, Bool, true, List, eqb, ltb, Ok, Err}
 use Rattle.fields.specs.Outcome.{Outcome, value, refused, pick}
 use Rattle.dma.specs.Buffers.{pages_for}
 use Rattle.dma.specs.declared.Cutter.{Cutter}
@@ -32,8 +32,8 @@ use Rattle.tasks.specs.declared.Claim.TheVariants as tc
 use Rattle.tasks.specs.declared.Claimed.{Claimed}
 use Rattle.tasks.specs.declared.Claimed.TheVariants as l
 use Rattle.uar.specs.Steps.{started}
-use Rattle.uar.specs.declared.Found.{Found}
-use Rattle.uar.specs.declared.Found.TheVariants as u
+use Rattle.uar.specs.Uar.{Found}
+use Rattle.uar.specs.declared.NotFound.TheVariants as u
 use Rattle.work.specs.Work.{working, work_script}
 use Rattle.work.specs.declared.Task.TheVariants as t
 use Rattle.work.specs.declared.End.{End}
@@ -89,14 +89,14 @@ claim_in e.Parted = l.Refused
 
 abbrev pub bar_in : End → Found
 bar_in (e.Bar y) = y
-bar_in (e.Attr y) = u.Refused
-bar_in (e.Claim y) = u.Refused
-bar_in (e.Reset y) = u.Refused
-bar_in (e.Made y) = u.Refused
-bar_in e.Freed = u.Refused
-bar_in (e.Looked y) = u.Refused
-bar_in (e.Cmd y) = u.Refused
-bar_in e.Parted = u.Refused
+bar_in (e.Attr y) = (Err u.Refused)
+bar_in (e.Claim y) = (Err u.Refused)
+bar_in (e.Reset y) = (Err u.Refused)
+bar_in (e.Made y) = (Err u.Refused)
+bar_in e.Freed = (Err u.Refused)
+bar_in (e.Looked y) = (Err u.Refused)
+bar_in (e.Cmd y) = (Err u.Refused)
+bar_in e.Parted = (Err u.Refused)
 
 abbrev pub toggle_in : End → Bool
 toggle_in (e.Looked y) = y
@@ -264,9 +264,9 @@ abbrev pub reset_plan : Session → ResetEnd → Top → Planned
 reset_plan s y top = pick (is_good y) (planned (finds_of s) w.Nothing top.count) (part_plan s x.Reset s.books top)
 
 abbrev pub bar_plan : Session → Found → Top → Planned
-bar_plan s (u.Bar y) top = box_plan (informs s (with_uar s.info y)) p.Inbox top
-bar_plan s u.Refused top = part_plan s x.Bar s.books top
-bar_plan s u.BadList top = part_plan s x.List s.books top
+bar_plan s (Ok y) top = box_plan (informs s (with_uar s.info y)) p.Inbox top
+bar_plan s (Err u.Refused) top = part_plan s x.Bar s.books top
+bar_plan s (Err u.BadList) top = part_plan s x.List s.books top
 
 abbrev pub inbox_plan : Session → Made → Top → Planned
 inbox_plan s (m.Ready y) top = box_plan s p.Outbox top

@@ -12,6 +12,7 @@ ghost use Rattle.opening_values.specs.Heads.{CapIs, VirtIs, CutIs, WithSlots};
 ghost use Rattle.opening_plan.specs.Plan as p;
 ghost use Rattle.opening_plan.specs.Values as v;
 
+use bars::Pick;
 use command::{Catas, CmdResult};
 use dma::{Cutter, Listed, Virt};
 use hcr::{Hcr, Op};
@@ -20,7 +21,7 @@ use pci::Refusal;
 use reply::{DevCap, FuncInfo, FwInfo};
 use session::{Area, Boot, Core, Failure, Fill, Plan, Slot, Stage, Top, Wire};
 use tasks::{Attributes, Claimed};
-use uar::Found;
+use uar::NotFound;
 use work::End;
 
 // How a task has ended; a plan's own tasks end in their own kind, and any other counts as failed.
@@ -56,19 +57,19 @@ pub fn claim_in(end: End) -> Claimed
     }
 }
 
-pub fn bar_in(end: End) -> Found
+pub fn bar_in(end: End) -> Result<Pick, NotFound>
     ensures { result ≡ p.bar_in end }
 {
     match end {
         End::Bar(x) => x,
-        End::Attr(_) => Found::Refused,
-        End::Claim(_) => Found::Refused,
-        End::Reset(_) => Found::Refused,
-        End::Made(_) => Found::Refused,
-        End::Freed => Found::Refused,
-        End::Looked(_) => Found::Refused,
-        End::Cmd(_) => Found::Refused,
-        End::Parted => Found::Refused,
+        End::Attr(_) => Err(NotFound::Refused),
+        End::Claim(_) => Err(NotFound::Refused),
+        End::Reset(_) => Err(NotFound::Refused),
+        End::Made(_) => Err(NotFound::Refused),
+        End::Freed => Err(NotFound::Refused),
+        End::Looked(_) => Err(NotFound::Refused),
+        End::Cmd(_) => Err(NotFound::Refused),
+        End::Parted => Err(NotFound::Refused),
     }
 }
 

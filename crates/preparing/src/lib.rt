@@ -11,13 +11,14 @@ ghost use Rattle.session.specs.Core.{full, plan_in, PlanIs, ends_as};
 ghost use Rattle.behind.specs.Behind.{behind_in};
 ghost use Rattle.opening_plan.specs.Plan as p;
 
+use bars::Pick;
 use buffer::{Fault, Made, MakePhase, Making};
 use hcr::Op;
 use pci::Refusal;
 use reset::ResetEnd;
 use session::{Boot, Closing, Core, Failure, Plan, Prepare, Stage, Top};
 use tasks::{Attr, Attributes, Claim, Claimed};
-use uar::Found;
+use uar::NotFound;
 use work::{End, Task};
 
 // Nothing is to be torn down: the session says why, and the result of closing is clean.
@@ -97,13 +98,13 @@ fn was_reset(s: Core, y: ResetEnd, top: Top) -> Plan
     part(s, Refusal::Reset, top)
 }
 
-fn found(s: Core, y: Found, top: Top) -> Plan
+fn found(s: Core, y: Result<Pick, NotFound>, top: Top) -> Plan
     ensures { PlanIs result (λ b. p.bar_plan (full s b) y top) }
 {
     match y {
-        Found::Bar(uar) => box_plan(Core { uar, ..s }, Prepare::Inbox, top),
-        Found::Refused => part(s, Refusal::Bar, top),
-        Found::BadList => part(s, Refusal::List, top),
+        Ok(uar) => box_plan(Core { uar, ..s }, Prepare::Inbox, top),
+        Err(NotFound::Refused) => part(s, Refusal::Bar, top),
+        Err(NotFound::BadList) => part(s, Refusal::List, top),
     }
 }
 

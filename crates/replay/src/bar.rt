@@ -1,6 +1,6 @@
 // The leaves 15 to 18: base, candidates, choice, resource descriptor.
 use crate::words;
-use bars::{BarRange, Begun, Choice, Next, Pick};
+use bars::{BarRange, Choice, Next, Pick};
 
 pub(crate) const END: usize = 19;
 
@@ -58,8 +58,8 @@ fn registers(args: &[u8]) -> [u32; 6] {
 // The refusal's number, 0 where there is none; the pick; then the indices asked, in order.
 fn choose(args: &[u8], out: &mut [u8]) {
     match bars::choose(registers(args), words::place(args, 6)) {
-        Begun::Ask(index, c) => ask(args, index, c, out),
-        Begun::Refused => words::put(out, 0, 4),
+        Ok((index, c)) => ask(args, index, c, out),
+        Err(_) => words::put(out, 0, 4),
     }
 }
 
@@ -83,18 +83,18 @@ fn ask(args: &[u8], first: u8, start: Choice, out: &mut [u8]) {
 }
 
 // What is stored for an index: whether it is known, its base and its length.
-fn stored(args: &[u8], index: u8) -> BarRange {
+fn stored(args: &[u8], index: u8) -> Option<BarRange> {
     if 5 < index {
-        return BarRange::NoAnswer;
+        return None;
     }
     let k = 7 + 3 * (index as usize);
     if words::is_set(args, k) {
-        return BarRange::Range {
+        return Some(BarRange {
             base: words::word(args, k + 1),
             length: words::word(args, k + 2),
-        };
+        });
     }
-    BarRange::NoAnswer
+    None
 }
 
 fn put_pick(out: &mut [u8], p: Pick) {

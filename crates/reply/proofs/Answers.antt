@@ -1,4 +1,5 @@
 -- The tests on a capability reply, one after the other, and what the answer to each says.
+use Rattle.std.specs.Prelude.{Option}
 use Prim.Native.Nat.{ℕ, ◌≤◌, ◌<◌}
 use mathlib.Core.Bool.{Bool, true, false, not}
 use mathlib.Core.Path.{◌≡◌, refl, ap, sym, ◌∙◌}
@@ -8,7 +9,6 @@ use lib.Dec.{ltb}
 use lib.ListN.{length}
 use Rattle.fields.specs.Fields.{be}
 use Rattle.fields.specs.Outcome.{Outcome, value, refused, value_or, pick}
-use Rattle.bars.specs.declared.Size.{Size}
 use Rattle.reply.specs.declared.DevCap.{DevCap}
 use Rattle.reply.specs.declared.CapCheck.{CapCheck}
 use Rattle.reply.specs.declared.CapCheck.TheVariants.{Good, Short, MinPage, Ports, Uar, UarArea}
@@ -24,7 +24,7 @@ verdict : (short page port uar area : Bool) (m p f a : ℕ) → DevCap → Outco
 verdict short page port uar area m p f a d =
     pick short (refused 21 []) (pick page (refused 12 (m ∷ [])) (pick (not port) (refused 13 (p ∷ [])) (pick uar (refused 14 (f ∷ [])) (pick area (refused 15 (a ∷ [])) (value d)))))
 
-module _ (s : List ℕ) (bar : Size) where
+module _ (s : List ℕ) (bar : Option ℕ) where
   is_verdict : capability_of s bar ≡ verdict (ltb (length s) 168) (ltb 12 (min_page s)) (one_or_two (ports_in s)) (ltb 43 (uar_field s)) (above_size bar (uar_area s)) (min_page s) (ports_in s) (uar_field s) (uar_area s) (dev_cap_of s)
   unfolding verdict
   is_verdict = refl
@@ -70,7 +70,7 @@ refusal : (k : CapCheck) (r : Capability) (o : Outcome DevCap) → r ≡ refused
 refusal k r o e q = (ap capability e ∙ sym q, ap (λ (x : Capability). x.cap) e ∙ sym (ap (value_or no_caps) q ∙ none_held k))
 
 -- The answer at each test, for the values m, p, f and a that were read.
-module _ (s : List ℕ) (bar : Size) (r : Capability) where
+module _ (s : List ℕ) (bar : Option ℕ) (r : Capability) where
   pub short_answers : length s < 168 → r ≡ refused_caps Short → Answers r (capability_of s bar)
   short_answers h e = refusal Short r (capability_of s bar) e (is_verdict s bar ∙ v_short _ _ _ _ _ _ _ _ _ (lt-ltb _ _ h))
 

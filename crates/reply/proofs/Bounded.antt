@@ -1,4 +1,5 @@
 -- How large the fields of a capability reply can be.
+use Rattle.std.specs.Prelude.{Option}
 use Prim.Native.Nat.{ℕ, zero, suc, ◌^◌, ◌≤◌, ◌<◌}
 use mathlib.Core.Bool.{not}
 use mathlib.Core.Path.{◌≡◌, refl, sym}
@@ -12,7 +13,6 @@ use Rattle.fields.specs.Outcome.{value, refused, pick}
 use Rattle.fields.specs.declared.Order.TheVariants.{Big}
 use Rattle.fields.proofs.Laws.{Bytes, number_lt}
 use Rattle.fields.proofs.Outcomes.{past, same_value}
-use Rattle.bars.specs.declared.Size.{Size}
 use Rattle.reply.specs.declared.Place.{Place}
 use Rattle.reply.specs.declared.DevCap.{DevCap}
 use Rattle.reply.specs.Capability.{read_into, dev_cap_of, capability_of, low, high, Bounds, min_page, ports_in, one_or_two, uar_field, uar_area, above_size}
@@ -63,7 +63,7 @@ decoded_bounds s b =
     }
 
 -- an accepted reply gives its fields
-pub accepted_is : (s : List ℕ) (bar : Size) (c : DevCap) → capability_of s bar ≡ value c → c ≡ dev_cap_of s
+pub accepted_is : (s : List ℕ) (bar : Option ℕ) (c : DevCap) → capability_of s bar ≡ value c → c ≡ dev_cap_of s
 accepted_is s bar c e =
     let d = value (dev_cap_of s) in
     let area = pick (above_size bar (uar_area s)) (refused 15 (uar_area s ∷ [])) d in

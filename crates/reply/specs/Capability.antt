@@ -2,11 +2,9 @@
 -- Public document: ConnectX-3 Programmer's Reference Manual, QUERY_DEV_CAP. It was not at hand: the
 -- offsets of the ten entry sizes, of input L and of the tests are document 01's, the others the
 -- Rust's.
-use Rattle.std.specs.Prelude.{ℕ, ◌+◌, ◌*◌, ◌/◌, ◌%◌, ◌^◌, ◌≤◌, ◌<◌, max, Bool, false, ◌||◌, not, ◌≡◌, List, [], ◌∷◌, length, get_or, set, replicate, ltb, eqb}
+use Rattle.std.specs.Prelude.{ℕ, ◌+◌, ◌*◌, ◌/◌, ◌%◌, ◌^◌, ◌≤◌, ◌<◌, max, Bool, false, ◌||◌, not, ◌≡◌, List, [], ◌∷◌, length, get_or, set, replicate, ltb, eqb, Option, Some, None}
 use Rattle.fields.specs.Fields.{be}
 use Rattle.fields.specs.Outcome.{Outcome, value, refused, pick}
-use Rattle.bars.specs.declared.Size.{Size}
-use Rattle.bars.specs.declared.Size.TheVariants.{Known, Unknown}
 use Rattle.reply.specs.declared.Place.{Place}
 use Rattle.reply.specs.declared.DevCap.{DevCap}
 use Rattle.reply.specs.declared.CapCheck.{CapCheck}
@@ -124,13 +122,13 @@ abbrev pub one_or_two : ℕ → Bool
 one_or_two n = eqb n 1 || eqb n 2
 
 -- the area is above the BAR's size; never, where that is unknown
-abbrev pub above_size : Size → ℕ → Bool
-above_size (Known n) area = ltb n area
-above_size Unknown area = false
+abbrev pub above_size : Option ℕ → ℕ → Bool
+above_size (Some n) area = ltb n area
+above_size None area = false
 
 -- Document 01's table, in its order: 21 slice too short; "12 min page exponent above 12 (exponent)"; "13 ports not 1 or 2 (ports)"; "14 UAR
 -- exponent field at 0x49, low six bits, above 43 (field)"; "15 UAR area above known BAR size (area)"
-abbrev pub capability_of : List ℕ → Size → Outcome DevCap
+abbrev pub capability_of : List ℕ → Option ℕ → Outcome DevCap
 capability_of s bar =
     pick (ltb (length s) 168) (refused 21 [])
     (pick (ltb 12 (min_page s)) (refused 12 (min_page s ∷ []))

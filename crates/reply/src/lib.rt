@@ -8,7 +8,6 @@ ghost use Rattle.reply.specs.Replies.{catas_bar_value, fw_of, no_fw, two_or_thre
 ghost use Rattle.reply.specs.Replies.{mac_of, port_of, no_port, query_port, query_port_of, query_func, query_func_of};
 ghost use Rattle.reply.specs.Capability.{capability, capability_of, dev_cap_of, entries_of, no_caps, uar_area, above_size, one_or_two, refused_by, refused_caps, bit};
 
-use bars::Size;
 use reader::Reader;
 
 // The kinds of ICM table, by index, and what is fixed for each.
@@ -371,13 +370,10 @@ fn uar_area(field: u8) -> u64
     1u64 << (field + 20)
 }
 
-fn above(bar: Size, area: u64) -> bool
+fn above(bar: Option<u64>, area: u64) -> bool
     ensures { result ≡ above_size bar area }
 {
-    match bar {
-        Size::Known(n) => n < area,
-        Size::Unknown => false,
-    }
+    bar.is_some_and(|n| n < area)
 }
 
 impl Capability {
@@ -392,7 +388,7 @@ impl Capability {
 }
 
 // The capability reply, with the tests on it: 21, then 12 to 15.
-pub fn dev_cap(reply: &[u8], bar: Size) -> Capability
+pub fn dev_cap(reply: &[u8], bar: Option<u64>) -> Capability
     ensures said { capability result ≡ capability_of reply.now bar }
     ensures held { result.cap ≡ value_or no_caps (capability_of reply.now bar) }
 {

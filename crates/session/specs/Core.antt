@@ -1,7 +1,6 @@
 -- THE HEAD of a session by value, and what stands behind it: together they are the session that all definitions speak of.
-use Rattle.std.specs.Prelude.{ℕ, List, Bool, true, false, ◌≡◌, eqb, replicate}
+use Rattle.std.specs.Prelude.{ℕ, List, Bool, true, false, ◌≡◌, eqb, replicate, Option}
 use Rattle.fields.specs.Outcome.{value_or, pick}
-use Rattle.bars.specs.declared.Size.{Size}
 use Rattle.bars.specs.declared.Pick.{Pick}
 use Rattle.reply.specs.Capability.{capability_of, no_caps}
 use Rattle.reply.specs.Replies.{query_port_of, no_port}
@@ -130,13 +129,13 @@ abbrev pub none_behind : Behind
 none_behind = behind rs.started us.started no_caps no_port no_port (replicate 82 no_slot)
 
 -- WHAT A REPLY LEAVES behind the head: it is the one in the outbox as it was lent
-abbrev pub cap_in : (outbox : List ℕ) → Size → DevCap
+abbrev pub cap_in : (outbox : List ℕ) → Option ℕ → DevCap
 cap_in o z = value_or no_caps (capability_of o z)
 
 abbrev pub port_in : (outbox : List ℕ) → ℕ → PortInfo
 port_in o i = value_or no_port (query_port_of o i)
 
-abbrev pub noted : Note → Size → (outbox : List ℕ) → Behind → Behind
+abbrev pub noted : Note → Option ℕ → (outbox : List ℕ) → Behind → Behind
 noted n.Nothing z o b = b
 noted n.Cap z o b = behind b.reset b.find (cap_in o z) b.port1 b.port2 b.slots
 noted (n.Port i) z o b =

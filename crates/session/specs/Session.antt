@@ -1,7 +1,6 @@
 -- The session's values: its books at the start, and how a step changes them.
-use Rattle.std.specs.Prelude.{ℕ, zero, suc, ◌+◌, ◌*◌, ◌%◌, ◌^◌, Bool, true, false, not, List, [], ◌∷◌, ◌++◌, eqb, ltb, get_or, set, replicate}
+use Rattle.std.specs.Prelude.{ℕ, zero, suc, ◌+◌, ◌*◌, ◌%◌, ◌^◌, Bool, true, false, not, List, [], ◌∷◌, ◌++◌, eqb, ltb, get_or, set, replicate, None}
 use Rattle.fields.specs.Outcome.{pick}
-use Rattle.bars.specs.declared.Size.TheVariants as z
 use Rattle.bars.specs.declared.How.TheVariants as w
 use Rattle.dma.specs.declared.Buffer.{Buffer}
 use Rattle.hcr.specs.declared.Post.{Post}
@@ -59,7 +58,7 @@ no_books =
 abbrev pub no_info : Info
 no_info =
     record {
-      uar = record { index = 0; size = z.Unknown; how = w.NoMatch };
+      uar = record { index = 0; size = None; how = w.NoMatch };
       cap = no_caps;
       func = record { rsvd_eqs = 0; max_eqs = 0; rsvd_uars = 0 };
       port1 = no_port;

@@ -8,7 +8,7 @@ ghost use Rattle.session.specs.Core.{full, none_behind, FullIs, leads, start_of,
 ghost use Rattle.session.specs.Session.{imm_of, names_in, names_out, buffer_of, slot_at, bytes_in, lent_to};
 ghost use Rattle.session.specs.Failures.{fault_of, failure_of, needs_reset, immediate_of, no_memory, made_in, broken_by};
 
-use bars::{How, Pick, Size};
+use bars::{How, Pick};
 use buffer::{Fault, Made};
 use command::{Catas, Cmd, CmdEnd, CmdResult};
 use dma::{Buffer, Cutter};
@@ -438,7 +438,7 @@ impl Core {
             original: 0,
             uar: Pick {
                 index: 0,
-                size: Size::Unknown,
+                size: None,
                 how: How::NoMatch,
             },
             func: FuncInfo {

@@ -5,12 +5,12 @@ use mathlib.Core.List.{List, ◌∷◌}
 use mathlib.Core.Path.{◌≡◌, refl, ap}
 use native.Mathlib.Omega.{arith}
 use lib.Dec.{eqb}
+use Rattle.std.specs.Prelude.{Option, None, Ok}
 use Rattle.fields.specs.Outcome.{value, refused, pick}
 use Rattle.bars.specs.Resource.{Answer, resource_at}
 use Rattle.bars.specs.Choose.{has_base, those, rising, is_other, others_from}
 use Rattle.bars.specs.Steps.{pick_of, settled_of, onward_of, judged_of, hears_first, hears_second, step_of}
 use Rattle.bars.specs.declared.BarRange.{BarRange}
-use Rattle.bars.specs.declared.BarRange.TheVariants as b
 use Rattle.bars.specs.declared.How.TheVariants as h
 use Rattle.bars.specs.declared.Candidate.{Candidate}
 use Rattle.bars.specs.declared.Asking.{Asking}
@@ -20,10 +20,8 @@ use Rattle.bars.specs.declared.Next.{Next}
 use Rattle.pci.specs.Script.{Script, ret}
 use Rattle.pci.specs.Machine as m
 use Rattle.pci.proofs.Cases.{dword_case, list_case}
-use Rattle.uar.specs.Uar.{range_from, on_list, candidate, other, scan, judging, second, reading, finding}
+use Rattle.uar.specs.Uar.{Found, range_from, on_list, candidate, other, scan, judging, second, reading, finding}
 use Rattle.uar.specs.Steps.{started, read_move, led_of, list_move, choice_move, moved_of, next_of, choice_script, bar_asks, bar_step, bar_script, BarFollows}
-use Rattle.uar.specs.declared.Found.{Found}
-use Rattle.uar.specs.declared.Found.TheVariants as f
 use Rattle.uar.specs.declared.BarPhase.{BarPhase}
 use Rattle.uar.specs.declared.BarPhase.TheVariants as p
 use Rattle.uar.specs.declared.FindBar.{FindBar}
@@ -71,7 +69,7 @@ module _ (s : FindBar) (c : Choice) where
       (pick_left s (has_base c.base c.second.answer) _ _ _ _ refl (onward_left 0)))
 
 -- a list leads where its answer does, or ends the search
-list_left : (s : FindBar) (c : Choice) (k : BarRange → Script Found) → ((r : BarRange) → left s (step_of c r) ≡ k r)
+list_left : (s : FindBar) (c : Choice) (k : Option BarRange → Script Found) → ((r : Option BarRange) → left s (step_of c r) ≡ k r)
     → (a : Answer) → m.rest bar_asks bar_step bar_script (to s (list_move c a)) ≡ on_list k a
 list_left s c k h (value r) = h (range_from r)
 list_left s c k h (refused n vs) = refl
@@ -87,32 +85,32 @@ module _ (ds : List ℕ) (base : ℕ) (x y : Candidate) where
   at a = state (p.Choosing (choice base x y a)) ds
 
   -- what is said about the first candidate, the second, or another index
-  first_left : (r : BarRange) → left (at k.First) (step_of (choice base x y k.First) r)
+  first_left : (r : Option BarRange) → left (at k.First) (step_of (choice base x y k.First) r)
       ≡ pick (eqb x.index y.index) (judging base (record { index = x.index; answer = r }) y) (second base (record { index = x.index; answer = r }) y.index)
   first_left r = pick_left (at k.First) (eqb x.index y.index) _ _ _ _ (judged_left (at k.First) (hears_first (choice base x y k.First) r)) refl
 
-  second_left : (r : BarRange) → left (at k.Second) (step_of (choice base x y k.Second) r) ≡ judging base x (record { index = y.index; answer = r })
+  second_left : (r : Option BarRange) → left (at k.Second) (step_of (choice base x y k.Second) r) ≡ judging base x (record { index = y.index; answer = r })
   second_left r = judged_left (at k.Second) (hears_second (choice base x y k.Second) r)
 
-  other_left : (i : ℕ) (r : BarRange) → left (at (k.Other i)) (step_of (choice base x y (k.Other i)) r)
-      ≡ pick (has_base base r) (ret (f.Bar (pick_of (candidate i r) h.Scan))) (scan base (settled_of x y) (others_from x.index y.index (suc i)))
+  other_left : (i : ℕ) (r : Option BarRange) → left (at (k.Other i)) (step_of (choice base x y (k.Other i)) r)
+      ≡ pick (has_base base r) (ret (Ok (pick_of (candidate i r) h.Scan))) (scan base (settled_of x y) (others_from x.index y.index (suc i)))
   other_left i r = pick_left (at (k.Other i)) (has_base base r) _ _ _ _ refl (onward_left (at (k.Other i)) (choice base x y (k.Other i)) (suc i))
 
   at_choice : (a : Asking) → m.Follows bar_asks bar_step bar_script (at a) (choice_script (choice base x y a) a)
   at_choice k.First = (
     refl,
     list_case bar_asks bar_step bar_script _ (λ bytes r. to (at k.First) (choice_move (choice base x y k.First) bytes r)) _
-        (λ bytes. list_left (at k.First) (choice base x y k.First) _ first_left (resource_at bytes)) (λ bytes. first_left b.NoAnswer) (λ bytes. refl),
+        (λ bytes. list_left (at k.First) (choice base x y k.First) _ first_left (resource_at bytes)) (λ bytes. first_left None) (λ bytes. refl),
   )
   at_choice k.Second = (
     refl,
     list_case bar_asks bar_step bar_script _ (λ bytes r. to (at k.Second) (choice_move (choice base x y k.Second) bytes r)) _
-        (λ bytes. list_left (at k.Second) (choice base x y k.Second) _ second_left (resource_at bytes)) (λ bytes. second_left b.NoAnswer) (λ bytes. refl),
+        (λ bytes. list_left (at k.Second) (choice base x y k.Second) _ second_left (resource_at bytes)) (λ bytes. second_left None) (λ bytes. refl),
   )
   at_choice (k.Other i) = (
     refl,
     list_case bar_asks bar_step bar_script _ (λ bytes r. to (at (k.Other i)) (choice_move (choice base x y (k.Other i)) bytes r)) _
-        (λ bytes. list_left (at (k.Other i)) (choice base x y (k.Other i)) _ (other_left i) (resource_at bytes)) (λ bytes. other_left i b.NoAnswer) (λ bytes. refl),
+        (λ bytes. list_left (at (k.Other i)) (choice base x y (k.Other i)) _ (other_left i) (resource_at bytes)) (λ bytes. other_left i None) (λ bytes. refl),
   )
 
 at_phase : (ds : List ℕ) (f : BarPhase) → m.Follows bar_asks bar_step bar_script (state f ds) (bar_script (state f ds))

@@ -1,10 +1,9 @@
 -- The search as steps by value: the question of each state, what an answer makes of it, and the script that is left.
-use Rattle.std.specs.Prelude.{ℕ, zero, suc, ◌+◌, ◌*◌, List, set, replicate}
+use Rattle.std.specs.Prelude.{ℕ, zero, suc, ◌+◌, ◌*◌, List, set, replicate, Option, Some, None, Ok, Err}
 use Rattle.fields.specs.Outcome.{Outcome, value, refused}
 use Rattle.bars.specs.Resource.{Answer as Listed, resource_at}
 use Rattle.bars.specs.Choose.{others_from}
 use Rattle.bars.specs.Steps.{settled_of, step_of, choose_at}
-use Rattle.bars.specs.declared.BarRange.TheVariants as b
 use Rattle.bars.specs.declared.Asking.{Asking}
 use Rattle.bars.specs.declared.Asking.TheVariants as k
 use Rattle.bars.specs.declared.Choice.{Choice}
@@ -20,14 +19,11 @@ use Rattle.pci.specs.declared.DwordReply.{DwordReply}
 use Rattle.pci.specs.declared.DwordReply.TheVariants as d
 use Rattle.pci.specs.declared.ListReply.{ListReply}
 use Rattle.pci.specs.declared.ListReply.TheVariants as l
-use Rattle.uar.specs.Uar.{range_from, other, scan, second, choosing, dword_at, reading}
-use Rattle.uar.specs.declared.Found.{Found}
-use Rattle.uar.specs.declared.Found.TheVariants as f
+use Rattle.uar.specs.Uar.{Found, range_from, other, scan, second, choosing, dword_at, reading}
+use Rattle.uar.specs.declared.NotFound.TheVariants as f
 use Rattle.uar.specs.declared.BarPhase.{BarPhase}
 use Rattle.uar.specs.declared.BarPhase.TheVariants as p
 use Rattle.uar.specs.declared.FindBar.{FindBar}
-use Rattle.uar.specs.declared.BarEnding.{BarEnding}
-use Rattle.uar.specs.declared.BarEnding.TheVariants as g
 use Rattle.uar.specs.declared.BarStep.{BarStep}
 use Rattle.uar.specs.declared.BarMove.{BarMove}
 use Rattle.uar.specs.declared.BarMove.TheVariants as v
@@ -55,21 +51,21 @@ bar_asks s = asks_at s.phase
 -- THE STEPS
 abbrev pub read_move : (n : ℕ) → DwordReply → BarMove
 read_move n (d.Got x) = v.Save n x
-read_move n d.Failed = v.End f.Refused
+read_move n d.Failed = v.End (Err f.Refused)
 read_move n d.Wrong = v.Stay
 
 abbrev pub led_of : Next → BarMove
 led_of (n.Ask i c) = v.To c
-led_of (n.Picked y) = v.End (f.Bar y)
+led_of (n.Picked y) = v.End (Ok y)
 
 -- a bad list ends the search at once
 abbrev pub list_move : Choice → Listed → BarMove
 list_move c (value r) = led_of (step_of c (range_from r))
-list_move c (refused i vs) = v.End f.BadList
+list_move c (refused i vs) = v.End (Err f.BadList)
 
 abbrev pub choice_move : Choice → (bytes : List ℕ) → ListReply → BarMove
 choice_move c bytes l.Got = list_move c (resource_at bytes)
-choice_move c bytes l.Failed = led_of (step_of c b.NoAnswer)
+choice_move c bytes l.Failed = led_of (step_of c None)
 choice_move c bytes l.Wrong = v.Stay
 
 abbrev pub move_at : Answer → (bytes : List ℕ) → BarPhase → BarMove
@@ -78,28 +74,28 @@ move_at a bytes (p.Choosing c) = choice_move c bytes (list_of a)
 
 -- all dwords are there, and the choice for register 2 begins
 abbrev pub begins_by : List ℕ → Outcome (ℕ × Choice) → BarStep
-begins_by ds (value x) = record { find = record { phase = p.Choosing x.1; dwords = ds }; ending = g.Going }
-begins_by ds (refused i vs) = record { find = record { phase = p.Reading 0; dwords = ds }; ending = g.Ended f.Refused }
+begins_by ds (value x) = record { find = record { phase = p.Choosing x.1; dwords = ds }; ending = None }
+begins_by ds (refused i vs) = record { find = record { phase = p.Reading 0; dwords = ds }; ending = Some (Err f.Refused) }
 
 abbrev pub begins : List ℕ → BarStep
 begins ds = begins_by ds (choose_at ds 2)
 
 abbrev pub read_on : List ℕ → (n : ℕ) → BarStep
 read_on ds zero = begins ds
-read_on ds (suc n) = record { find = record { phase = p.Reading n; dwords = ds }; ending = g.Going }
+read_on ds (suc n) = record { find = record { phase = p.Reading n; dwords = ds }; ending = None }
 
 abbrev pub moved_of : FindBar → BarMove → BarStep
-moved_of s v.Stay = record { find = s; ending = g.Going }
+moved_of s v.Stay = record { find = s; ending = None }
 moved_of s (v.Save n x) = read_on (set s.dwords (dword_at n) x) n
-moved_of s (v.To c) = record { find = record { phase = p.Choosing c; dwords = s.dwords }; ending = g.Going }
-moved_of s (v.End r) = record { find = s; ending = g.Ended r }
+moved_of s (v.To c) = record { find = record { phase = p.Choosing c; dwords = s.dwords }; ending = None }
+moved_of s (v.End r) = record { find = s; ending = Some r }
 
 abbrev pub bar_step_of : FindBar → Answer → (bytes : List ℕ) → BarStep
 bar_step_of s a bytes = moved_of s (move_at a bytes s.phase)
 
-abbrev pub leads : FindBar → BarEnding → m.Next FindBar Found
-leads s g.Going = m.more s
-leads s (g.Ended r) = m.ended r
+abbrev pub leads : FindBar → Option Found → m.Next FindBar Found
+leads s None = m.more s
+leads s (Some r) = m.ended r
 
 abbrev pub next_of : BarStep → m.Next FindBar Found
 next_of st = leads st.find st.ending

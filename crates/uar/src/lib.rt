@@ -7,13 +7,12 @@ ghost use Rattle.uar.specs.Uar.{dword_at};
 ghost use Rattle.uar.specs.Steps.{started, index_of, bar_asks, read_move, led_of, list_move, choice_move};
 ghost use Rattle.uar.specs.Steps.{move_at, begins, read_on, moved_of, bar_step_of};
 
-use bars::{Asking, BarList, BarRange, Begun, Choice, Pick};
+use bars::{Asking, Choice, Pick};
 use pci::{Answer, DwordReply, ListReply, Question};
 
-// The index that was picked; 4; or 27, a resource list that is damaged or cut.
+// Why no index was picked: 4; or 27, a resource list that is damaged or cut.
 #[derive(Clone, Copy)]
-pub enum Found {
-    Bar(Pick),
+pub enum NotFound {
     Refused,
     BadList,
 }
@@ -41,17 +40,11 @@ impl FindBar {
     pub const MORE: u8 = 5;
 }
 
-// Where a step leads: it goes on, or has ended.
-#[derive(Clone, Copy)]
-pub enum BarEnding {
-    Going,
-    Ended(Found),
-}
-
+// Where a step leads: the search goes on, or has ended.
 #[derive(Clone, Copy)]
 pub struct BarStep {
     pub find: FindBar,
-    pub ending: BarEnding,
+    pub ending: Option<Result<Pick, NotFound>>,
 }
 
 // What an answer does to a search: nothing; a dword was read, with so many left; the choice goes on; the end.
@@ -60,25 +53,21 @@ pub enum BarMove {
     Stay,
     Save(u8, u32),
     To(Choice),
-    End(Found),
+    End(Result<Pick, NotFound>),
 }
 
 // The number of the BAR dword that is read when n are left after it.
 fn dword_at(n: u8) -> u8
     ensures { (result ≡ dword_at n) × (result ≤ 5) }
 {
-    if n < 5 {
-        return 5 - n;
-    }
-    0
+    5u8.saturating_sub(n)
 }
 
 // The index that a choice asks about.
 fn index_of(c: Choice) -> u8
     ensures { result ≡ index_of c }
 {
-    let asking = c.asking;
-    match asking {
+    match c.asking {
         Asking::First => c.first.index,
         Asking::Second => c.second.index,
         Asking::Other(i) => i,
@@ -91,7 +80,7 @@ fn read(n: u8, r: DwordReply) -> BarMove
 {
     match r {
         DwordReply::Got(x) => BarMove::Save(n, x),
-        DwordReply::Failed => BarMove::End(Found::Refused),
+        DwordReply::Failed => BarMove::End(Err(NotFound::Refused)),
         DwordReply::Wrong => BarMove::Stay,
     }
 }
@@ -102,7 +91,7 @@ fn led(next: bars::Next) -> BarMove
 {
     match next {
         bars::Next::Ask(_, c) => BarMove::To(c),
-        bars::Next::Picked(p) => BarMove::End(Found::Bar(p)),
+        bars::Next::Picked(p) => BarMove::End(Ok(p)),
     }
 }
 
@@ -112,9 +101,8 @@ fn listed(c: Choice, bytes: &[u8]) -> BarMove
     ensures { result ≡ list_move c (resource_at bytes.now) }
 {
     match bars::resource(bytes) {
-        BarList::Range { base, length } => led(bars::step(c, BarRange::Range { base, length })),
-        BarList::NoAnswer => led(bars::step(c, BarRange::NoAnswer)),
-        BarList::Bad => BarMove::End(Found::BadList),
+        Ok(answer) => led(bars::step(c, answer)),
+        Err(_) => BarMove::End(Err(NotFound::BadList)),
     }
 }
 
@@ -124,7 +112,7 @@ fn choice(c: Choice, r: ListReply, bytes: &[u8]) -> BarMove
 {
     match r {
         ListReply::Got => listed(c, bytes),
-        ListReply::Failed => led(bars::step(c, BarRange::NoAnswer)),
+        ListReply::Failed => led(bars::step(c, None)),
         ListReply::Wrong => BarMove::Stay,
     }
 }
@@ -144,19 +132,19 @@ fn begin(dwords: [u32; 6]) -> BarStep
     ensures { result ≡ begins dwords }
 {
     match bars::choose(dwords, FindBar::REGISTER) {
-        Begun::Ask(_, c) => BarStep {
+        Ok((_, c)) => BarStep {
             find: FindBar {
                 phase: BarPhase::Choosing(c),
                 dwords,
             },
-            ending: BarEnding::Going,
+            ending: None,
         },
-        Begun::Refused => BarStep {
+        Err(_) => BarStep {
             find: FindBar {
                 phase: BarPhase::Reading(0),
                 dwords,
             },
-            ending: BarEnding::Ended(Found::Refused),
+            ending: Some(Err(NotFound::Refused)),
         },
     }
 }
@@ -173,7 +161,7 @@ fn reads_on(dwords: [u32; 6], n: u8) -> BarStep
             phase: BarPhase::Reading(n - 1),
             dwords,
         },
-        ending: BarEnding::Going,
+        ending: None,
     }
 }
 
@@ -192,8 +180,7 @@ impl FindBar {
     pub fn asks(self) -> Question
         ensures { result ≡ bar_asks self }
     {
-        let phase = self.phase;
-        match phase {
+        match self.phase {
             BarPhase::Reading(n) => Question::ConfigRead32(FindBar::FIRST + dword_at(n) as u16 * 4),
             BarPhase::Choosing(c) => Question::Resource(index_of(c)),
         }
@@ -205,12 +192,11 @@ impl FindBar {
         match m {
             BarMove::Stay => BarStep {
                 find: self,
-                ending: BarEnding::Going,
+                ending: None,
             },
             BarMove::Save(n, value) => {
-                let at = dword_at(n) as usize;
                 let mut dwords = self.dwords;
-                dwords[at] = value;
+                dwords[dword_at(n) as usize] = value;
                 reads_on(dwords, n)
             }
             BarMove::To(c) => BarStep {
@@ -218,11 +204,11 @@ impl FindBar {
                     phase: BarPhase::Choosing(c),
                     ..self
                 },
-                ending: BarEnding::Going,
+                ending: None,
             },
             BarMove::End(end) => BarStep {
                 find: self,
-                ending: BarEnding::Ended(end),
+                ending: Some(end),
             },
         }
     }
@@ -231,8 +217,6 @@ impl FindBar {
     pub fn step(self, a: Answer, bytes: &[u8]) -> BarStep
         ensures { result ≡ bar_step_of self a bytes.now }
     {
-        let phase = self.phase;
-        let m = moves(phase, a, bytes);
-        self.moved(m)
+        self.moved(moves(self.phase, a, bytes))
     }
 }

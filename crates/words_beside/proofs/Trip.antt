@@ -1,4 +1,5 @@
 -- What was put into words is read back from them.
+use Rattle.std.specs.Prelude.{Option, Some, None}
 use Prim.Native.Nat.{◌<◌}
 use mathlib.Core.Path.{◌≡◌, refl, ap}
 use native.Mathlib.Nat.{mod-eq_of_lt}
@@ -14,7 +15,6 @@ use Rattle.reset.specs.declared.Control.{Control}
 use Rattle.reset.specs.declared.Control.TheVariants as cv
 use Rattle.reset.specs.declared.Reset.{Reset}
 use Rattle.bars.specs.declared.BarRange.{BarRange}
-use Rattle.bars.specs.declared.BarRange.TheVariants as rv
 use Rattle.bars.specs.declared.Candidate.{Candidate}
 use Rattle.bars.specs.declared.Asking.{Asking}
 use Rattle.bars.specs.declared.Asking.TheVariants as av
@@ -77,14 +77,14 @@ pub reset_small : (v : Reset) → ResetFits v → Words (reset_words v)
 unfolding Words
 reset_small v f = (words_at (reset_phase_words v.phase) (reset_phase_small v.phase f.phase) 0, (words_at (reset_phase_words v.phase) (reset_phase_small v.phase f.phase) 1, (words_at (reset_phase_words v.phase) (reset_phase_small v.phase f.phase) 2, (words_at (reset_phase_words v.phase) (reset_phase_small v.phase f.phase) 3, (words_at (control_words v.control) (control_small v.control f.control) 0, (words_at (control_words v.control) (control_small v.control f.control) 1, (words_at (control_words v.control) (control_small v.control f.control) 2, (words_at (control_words v.control) (control_small v.control f.control) 3, (omega (arith, f.dwords.1 0), (omega (arith, f.dwords.1 1), (omega (arith, f.dwords.1 2), (omega (arith, f.dwords.1 3), (omega (arith, f.dwords.1 4), (omega (arith, f.dwords.1 5), (omega (arith, f.dwords.1 6), (omega (arith, f.dwords.1 7), (omega (arith, f.dwords.1 8), (omega (arith, f.dwords.1 9), (omega (arith, f.dwords.1 10), (omega (arith, f.dwords.1 11), (omega (arith, f.dwords.1 12), (omega (arith, f.dwords.1 13), (omega (arith, f.dwords.1 14), (omega (arith, f.dwords.1 15), tt))))))))))))))))))))))))
 
-pub range_back : (v : BarRange) → RangeFits v → range_of (at (range_words v) 0) (at (range_words v) 1) (at (range_words v) 2) ≡ v
-range_back (rv.Range x y) f = refl
-range_back rv.NoAnswer f = refl
+pub range_back : (v : Option BarRange) → RangeFits v → range_of (at (range_words v) 0) (at (range_words v) 1) (at (range_words v) 2) ≡ v
+range_back (Some x) f = refl
+range_back None f = refl
 
-pub range_small : (v : BarRange) → RangeFits v → Words (range_words v)
+pub range_small : (v : Option BarRange) → RangeFits v → Words (range_words v)
 unfolding Words
-range_small (rv.Range x y) f = (lit< tt, (f.0, (f.1, tt)))
-range_small rv.NoAnswer f = (lit< tt, (lit< tt, (lit< tt, tt)))
+range_small (Some x) f = (lit< tt, (f.0, (f.1, tt)))
+range_small None f = (lit< tt, (lit< tt, (lit< tt, tt)))
 
 pub candidate_back : (v : Candidate) → CandidateFits v → candidate_of (at (candidate_words v) 0) (at (candidate_words v) 1) (at (candidate_words v) 2) (at (candidate_words v) 3) ≡ v
 candidate_back v f = simp (

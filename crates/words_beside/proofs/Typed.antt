@@ -1,4 +1,5 @@
 -- A value of its type fits, part by part of the reset and the search for the UAR BAR: each number is below the bound of its width. How what the language says of a value is read: words/proofs/Typed.antt.
+use Rattle.std.specs.Prelude.{Option, Some, None}
 use mathlib.Core.List.{List}
 use mir.Syntax.{w32}
 use mir.Val.{Val}
@@ -15,12 +16,12 @@ use Rattle.uar.specs.declared.BarPhase.{BarPhase}
 use Rattle.uar.specs.declared.FindBar.{FindBar}
 use Rattle.reset.specs.declared.Phase.TheVariants as reset-phase
 use Rattle.reset.specs.declared.Control.TheVariants as control
-use Rattle.bars.specs.declared.BarRange.TheVariants as range
 use Rattle.bars.specs.declared.Asking.TheVariants as asking
 use Rattle.uar.specs.declared.BarPhase.TheVariants as bar-phase
 use Rattle.reset.specs.contracts.Phase.{the_row as reset-phase-row}
 use Rattle.reset.specs.contracts.Control.{the_row as control-row}
 use Rattle.reset.specs.contracts.Reset.{the_row as reset-row}
+use Rattle.std.specs.contracts.option.Option.{the_field as option-of, the_type as option-type}
 use Rattle.bars.specs.contracts.BarRange.{the_row as range-row}
 use Rattle.bars.specs.contracts.Candidate.{the_row as candidate-row}
 use Rattle.bars.specs.contracts.Asking.{the_row as asking-row}
@@ -56,9 +57,9 @@ reset_typed v vs h = record {
   control = control_typed v.control _ h.1.1.1.1.0;
 }
 
-pub range_typed : (v : BarRange) (vs : List Val) → Is range-row v vs → RangeFits v
-range_typed (range.Range x y) vs h = (h.1.1.1.1.0.1, h.1.1.1.1.1.0.1)
-range_typed range.NoAnswer vs h = tt
+pub range_typed : (v : Option BarRange) (vs : List Val) → Is (option-of range-row).row ((option-type range-row).to v) vs → RangeFits v
+range_typed (Some x) vs h = (h.1.1.1.1.0.1.1.0.1, h.1.1.1.1.0.1.1.1.0.1)
+range_typed None vs h = tt
 
 pub candidate_typed : (v : Candidate) (vs : List Val) → Is candidate-row v vs → CandidateFits v
 candidate_typed v vs h = record {

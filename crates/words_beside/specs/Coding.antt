@@ -1,5 +1,5 @@
 -- A reset, and a search for the UAR BAR, as words.
-use Rattle.std.specs.Prelude.{ℕ, ◌%◌, List, [], ◌∷◌, eqb}
+use Rattle.std.specs.Prelude.{ℕ, ◌%◌, List, [], ◌∷◌, eqb, Option, Some, None}
 use Rattle.fields.specs.Outcome.{pick}
 use Rattle.words.specs.Words.{at}
 use Rattle.reset.specs.declared.Phase.{Phase}
@@ -8,7 +8,6 @@ use Rattle.reset.specs.declared.Control.{Control}
 use Rattle.reset.specs.declared.Control.TheVariants as cv
 use Rattle.reset.specs.declared.Reset.{Reset}
 use Rattle.bars.specs.declared.BarRange.{BarRange}
-use Rattle.bars.specs.declared.BarRange.TheVariants as rv
 use Rattle.bars.specs.declared.Candidate.{Candidate}
 use Rattle.bars.specs.declared.Asking.{Asking}
 use Rattle.bars.specs.declared.Asking.TheVariants as av
@@ -73,14 +72,14 @@ reset_of w = record {
 }
 
 -- what was said about an index
-abbrev pub range_words : BarRange → List ℕ
-range_words (rv.Range x y) = 0 ∷ x ∷ y ∷ []
-range_words rv.NoAnswer = 1 ∷ 0 ∷ 0 ∷ []
+abbrev pub range_words : Option BarRange → List ℕ
+range_words (Some x) = 0 ∷ x.base ∷ x.length ∷ []
+range_words None = 1 ∷ 0 ∷ 0 ∷ []
 
-abbrev pub range_of : (tag a b : ℕ) → BarRange
+abbrev pub range_of : (tag a b : ℕ) → Option BarRange
 range_of tag a b =
-    pick (eqb tag 1) rv.NoAnswer (
-    rv.Range a b)
+    pick (eqb tag 1) None (
+    Some (record { base = a; length = b }))
 
 abbrev pub candidate_words : Candidate → List ℕ
 candidate_words v = v.index ∷ at (range_words v.answer) 0 ∷ at (range_words v.answer) 1 ∷ at (range_words v.answer) 2 ∷ []

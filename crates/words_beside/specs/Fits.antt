@@ -1,5 +1,5 @@
 -- Each number is one of its type, and each array has its length.
-use Rattle.std.specs.Prelude.{◌^◌, ◌<◌, ◌≡◌, length}
+use Rattle.std.specs.Prelude.{◌^◌, ◌<◌, ◌≡◌, length, Option, Some, None}
 use Rattle.words.specs.Words.{Below}
 use Rattle.reset.specs.declared.Phase.{Phase}
 use Rattle.reset.specs.declared.Phase.TheVariants as rpv
@@ -7,7 +7,6 @@ use Rattle.reset.specs.declared.Control.{Control}
 use Rattle.reset.specs.declared.Control.TheVariants as cv
 use Rattle.reset.specs.declared.Reset.{Reset}
 use Rattle.bars.specs.declared.BarRange.{BarRange}
-use Rattle.bars.specs.declared.BarRange.TheVariants as rv
 use Rattle.bars.specs.declared.Candidate.{Candidate}
 use Rattle.bars.specs.declared.Asking.{Asking}
 use Rattle.bars.specs.declared.Asking.TheVariants as av
@@ -41,9 +40,9 @@ pub record ResetFits (v : Reset) : Type 0 where
   pub control : ControlFits v.control
   pub dwords : (length v.dwords ≡ 16) × Below (2 ^ 32) v.dwords
 
-abbrev pub RangeFits : BarRange → Type 0
-RangeFits (rv.Range x y) = (x < 2 ^ 64) × (y < 2 ^ 64)
-RangeFits rv.NoAnswer = Unit {0}
+abbrev pub RangeFits : Option BarRange → Type 0
+RangeFits (Some x) = (x.base < 2 ^ 64) × (x.length < 2 ^ 64)
+RangeFits None = Unit {0}
 
 pub record CandidateFits (v : Candidate) : Type 0 where
   pub index : v.index < 2 ^ 8

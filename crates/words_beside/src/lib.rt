@@ -137,21 +137,21 @@ pub fn reset_from(w: [u64; words::RESET]) -> Reset
 }
 
 // What was said about an index.
-fn range_words(v: BarRange) -> [u64; 3]
+fn range_words(v: Option<BarRange>) -> [u64; 3]
     ensures { result ≡ range_words v }
 {
     match v {
-        BarRange::Range { base, length } => [0, base, length],
-        BarRange::NoAnswer => [1, 0, 0],
+        Some(r) => [0, r.base, r.length],
+        None => [1, 0, 0],
     }
 }
 
-fn range_from(tag: u64, a: u64, b: u64) -> BarRange
+fn range_from(tag: u64, a: u64, b: u64) -> Option<BarRange>
     ensures { result ≡ range_of tag a b }
 {
     match tag {
-        1 => BarRange::NoAnswer,
-        _ => BarRange::Range { base: a, length: b },
+        1 => None,
+        _ => Some(BarRange { base: a, length: b }),
     }
 }
 

@@ -1,4 +1,5 @@
 -- What was put into words is read back from them.
+use Rattle.std.specs.Prelude.{ℕ, Option, Some, None}
 use Prim.Native.Nat.{◌<◌}
 use mathlib.Core.Path.{◌≡◌, refl}
 use native.Mathlib.Nat.{mod-eq_of_lt}
@@ -8,8 +9,6 @@ use Rattle.words.specs.Words.{at, cut}
 use Rattle.words.proofs.Laws.{Words, words_at, bit_back, bit_small, cut_back}
 use Rattle.words_info.specs.Coding.{size_words, size_of, how_words, how_of, pick_words, pick_of, func_words, func_of, told_words, told_of, cap_words, cap_of, port_words, port_of}
 use Rattle.words_info.specs.Fits.{SizeFits, HowFits, PickFits, FuncFits, ToldFits, CapFits, PortFits}
-use Rattle.bars.specs.declared.Size.{Size}
-use Rattle.bars.specs.declared.Size.TheVariants as sv
 use Rattle.bars.specs.declared.How.{How}
 use Rattle.bars.specs.declared.How.TheVariants as hv
 use Rattle.bars.specs.declared.Pick.{Pick}
@@ -18,14 +17,14 @@ use Rattle.words_info.specs.declared.Told.{Told}
 use Rattle.reply.specs.declared.DevCap.{DevCap}
 use Rattle.reply.specs.declared.PortInfo.{PortInfo}
 
-pub size_back : (v : Size) → SizeFits v → size_of (at (size_words v) 0) (at (size_words v) 1) ≡ v
-size_back (sv.Known x) f = refl
-size_back sv.Unknown f = refl
+pub size_back : (v : Option ℕ) → SizeFits v → size_of (at (size_words v) 0) (at (size_words v) 1) ≡ v
+size_back (Some x) f = refl
+size_back None f = refl
 
-pub size_small : (v : Size) → SizeFits v → Words (size_words v)
+pub size_small : (v : Option ℕ) → SizeFits v → Words (size_words v)
 unfolding Words
-size_small (sv.Known x) f = (lit< tt, (f, tt))
-size_small sv.Unknown f = (lit< tt, (lit< tt, tt))
+size_small (Some x) f = (lit< tt, (f, tt))
+size_small None f = (lit< tt, (lit< tt, tt))
 
 pub how_back : (v : How) → HowFits v → how_of (at (how_words v) 0) ≡ v
 how_back hv.BaseMatches f = refl

@@ -1,18 +1,18 @@
 -- A value of its type fits, part by part of what the card has said: each number is below the bound of its width. How what the language says of a value is read: words/proofs/Typed.antt.
+use Rattle.std.specs.Prelude.{ℕ, Option, Some, None}
 use mathlib.Core.List.{List}
 use mir.Syntax.{w8, w16}
 use mir.Val.{Val}
 use denote.Laws.{Is}
+use denote.Builtin.{u64}
 use Rattle.words.proofs.Typed.{array_below}
-use Rattle.bars.specs.declared.Size.{Size}
 use Rattle.bars.specs.declared.How.{How}
 use Rattle.bars.specs.declared.Pick.{Pick}
 use Rattle.reply.specs.declared.FuncInfo.{FuncInfo}
 use Rattle.reply.specs.declared.DevCap.{DevCap}
 use Rattle.reply.specs.declared.PortInfo.{PortInfo}
-use Rattle.bars.specs.declared.Size.TheVariants as size
 use Rattle.bars.specs.declared.How.TheVariants as how
-use Rattle.bars.specs.contracts.Size.{the_row as size-row}
+use Rattle.std.specs.contracts.option.Option.{the_field as option-of, the_type as option-type}
 use Rattle.bars.specs.contracts.How.{the_row as how-row}
 use Rattle.bars.specs.contracts.Pick.{the_row as pick-row}
 use Rattle.reply.specs.contracts.FuncInfo.{the_row as func-row}
@@ -20,9 +20,9 @@ use Rattle.reply.specs.contracts.DevCap.{the_row as cap-row}
 use Rattle.reply.specs.contracts.PortInfo.{the_row as port-row}
 use Rattle.words_info.specs.Fits.{SizeFits, HowFits, PickFits, FuncFits, CapFits, PortFits}
 
-pub size_typed : (v : Size) (vs : List Val) → Is size-row v vs → SizeFits v
-size_typed (size.Known x) vs h = h.1.1.1.1.0.1
-size_typed size.Unknown vs h = tt
+pub size_typed : (v : Option ℕ) (vs : List Val) → Is (option-of u64).row ((option-type u64).to v) vs → SizeFits v
+size_typed (Some x) vs h = h.1.1.1.1.0.1
+size_typed None vs h = tt
 
 pub how_typed : (v : How) (vs : List Val) → Is how-row v vs → HowFits v
 how_typed how.BaseMatches vs h = tt

@@ -1,9 +1,7 @@
 -- What the card and the host have said, as words.
-use Rattle.std.specs.Prelude.{ℕ, ◌%◌, List, [], ◌∷◌, eqb}
+use Rattle.std.specs.Prelude.{ℕ, ◌%◌, List, [], ◌∷◌, eqb, Option, Some, None}
 use Rattle.fields.specs.Outcome.{pick}
 use Rattle.words.specs.Words.{at, bit_of}
-use Rattle.bars.specs.declared.Size.{Size}
-use Rattle.bars.specs.declared.Size.TheVariants as sv
 use Rattle.bars.specs.declared.How.{How}
 use Rattle.bars.specs.declared.How.TheVariants as hv
 use Rattle.bars.specs.declared.Pick.{Pick}
@@ -13,14 +11,14 @@ use Rattle.reply.specs.declared.DevCap.{DevCap}
 use Rattle.reply.specs.declared.PortInfo.{PortInfo}
 
 -- the length of a BAR
-abbrev pub size_words : Size → List ℕ
-size_words (sv.Known x) = 0 ∷ x ∷ []
-size_words sv.Unknown = 1 ∷ 0 ∷ []
+abbrev pub size_words : Option ℕ → List ℕ
+size_words (Some x) = 0 ∷ x ∷ []
+size_words None = 1 ∷ 0 ∷ []
 
-abbrev pub size_of : (tag a : ℕ) → Size
+abbrev pub size_of : (tag a : ℕ) → Option ℕ
 size_of tag a =
-    pick (eqb tag 1) sv.Unknown (
-    sv.Known a)
+    pick (eqb tag 1) None (
+    Some a)
 
 -- how an index was chosen
 abbrev pub how_words : How → List ℕ

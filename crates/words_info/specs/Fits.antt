@@ -1,8 +1,6 @@
 -- Each number is one of its type, and each array has its length.
-use Rattle.std.specs.Prelude.{◌^◌, ◌<◌, ◌≡◌, length}
+use Rattle.std.specs.Prelude.{◌^◌, ◌<◌, ◌≡◌, length, ℕ, Option, Some, None}
 use Rattle.words.specs.Words.{Below}
-use Rattle.bars.specs.declared.Size.{Size}
-use Rattle.bars.specs.declared.Size.TheVariants as sv
 use Rattle.bars.specs.declared.How.{How}
 use Rattle.bars.specs.declared.How.TheVariants as hv
 use Rattle.bars.specs.declared.Pick.{Pick}
@@ -11,9 +9,9 @@ use Rattle.words_info.specs.declared.Told.{Told}
 use Rattle.reply.specs.declared.DevCap.{DevCap}
 use Rattle.reply.specs.declared.PortInfo.{PortInfo}
 
-abbrev pub SizeFits : Size → Type 0
-SizeFits (sv.Known x) = x < 2 ^ 64
-SizeFits sv.Unknown = Unit {0}
+abbrev pub SizeFits : Option ℕ → Type 0
+SizeFits (Some x) = x < 2 ^ 64
+SizeFits None = Unit {0}
 
 abbrev pub HowFits : How → Type 0
 HowFits hv.BaseMatches = Unit {0}

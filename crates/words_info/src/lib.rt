@@ -5,7 +5,7 @@ ghost use Rattle.std.specs.Prelude.{◌≡◌};
 ghost use Rattle.words_info.specs.Coding.{size_words, size_of, how_words, how_of, pick_words, pick_of, func_words, func_of};
 ghost use Rattle.words_info.specs.Coding.{told_words, told_of, entry_of, cap_words, cap_of, port_words, port_of};
 
-use bars::{How, Pick, Size};
+use bars::{How, Pick};
 use reply::{DevCap, FuncInfo, PortInfo};
 
 // What the card and the host have said, beside the capabilities and the ports.
@@ -16,22 +16,22 @@ pub struct Told {
     pub rev3: bool,
 }
 
-// The length of a BAR.
-fn size_words(v: Size) -> [u64; 2]
+// The length of a BAR, if it is known.
+fn size_words(v: Option<u64>) -> [u64; 2]
     ensures { result ≡ size_words v }
 {
     match v {
-        Size::Known(x) => [0, x],
-        Size::Unknown => [1, 0],
+        Some(x) => [0, x],
+        None => [1, 0],
     }
 }
 
-fn size_from(tag: u64, a: u64) -> Size
+fn size_from(tag: u64, a: u64) -> Option<u64>
     ensures { result ≡ size_of tag a }
 {
     match tag {
-        1 => Size::Unknown,
-        _ => Size::Known(a),
+        1 => None,
+        _ => Some(a),
     }
 }
 

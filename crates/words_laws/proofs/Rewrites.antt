@@ -1,4 +1,5 @@
 -- WHAT IS WRITTEN BEHIND THE HEAD is read there, for bytes of any kind; and bytes that held a session hold it with what was written.
+use Rattle.std.specs.Prelude.{Option}
 use Prim.Native.Nat.{ℕ, zero, suc, ◌+◌, ◌*◌, ◌≤◌, ◌<◌, ◌^◌}
 use mathlib.Core.Bool.{Bool, true, false}
 use mathlib.Core.Path.{◌≡◌, refl, ap, sym, ◌∙◌}
@@ -19,7 +20,6 @@ use Rattle.words_info.proofs.Trip.{cap_back, cap_small, port_back, port_small}
 use Rattle.words_beside.specs.Coding.{reset_words, reset_of, find_words, find_of}
 use Rattle.words_beside.specs.Fits.{ResetFits, FindFits}
 use Rattle.words_beside.proofs.Trip.{reset_back, reset_small, find_back, find_small}
-use Rattle.bars.specs.declared.Size.{Size}
 use Rattle.reply.specs.declared.DevCap.{DevCap}
 use Rattle.reply.specs.declared.PortInfo.{PortInfo}
 use Rattle.reset.specs.Steps as rs
@@ -216,7 +216,7 @@ ports : (g : Bool) (v : PortInfo) (s : List ℕ) → PortFits v → let b = behi
 ports true v s fit = rewrites_port1 s v fit
 ports false v s fit = rewrites_port2 s v fit
 
-pub rewrites_noted : (y : Note) (z : Size) (o s : List ℕ) → NoteFits y z o → Rewrites s (noted_in y z o s) (noted y z o (behind_in s))
+pub rewrites_noted : (y : Note) (z : Option ℕ) (o s : List ℕ) → NoteFits y z o → Rewrites s (noted_in y z o s) (noted y z o (behind_in s))
 rewrites_noted n.Nothing z o s fit = rewrites_none s (behind_in s) refl
 rewrites_noted n.Cap z o s fit = rewrites_cap s (cap_in o z) fit
 rewrites_noted (n.Port i) z o s fit = ports (eqb i 1) (port_in o i) s fit

@@ -1,6 +1,6 @@
 -- What is shown of a session that is kept as words. The theorems are `trip` (what was written is read), `decode_parts` (what was read stands there, part by part), and
 -- those of proofs/Put.antt: the head, the task or one part behind them is written, and the session is read back with that part alone another.
-use Rattle.std.specs.Prelude.{ℕ, ◌≤◌, List, ◌≡◌, length}
+use Rattle.std.specs.Prelude.{ℕ, ◌≤◌, List, ◌≡◌, length, Option}
 use Rattle.fields.specs.Outcome.{value}
 use Rattle.words.specs.Places.{SLOTS, state_bytes}
 use Rattle.words.specs.Words.{Each}
@@ -11,7 +11,6 @@ use Rattle.words_info.specs.Fits.{ToldFits, CapFits, PortFits}
 use Rattle.words_beside.specs.Fits.{ResetFits, FindFits}
 use Rattle.words_session.specs.Image.{core_of, ledger_for, told_for, decode_of}
 use Rattle.behind.specs.Behind.{behind_in}
-use Rattle.bars.specs.declared.Size.{Size}
 use Rattle.work.specs.declared.Task.{Task}
 use Rattle.session.specs.Core.{Behind, full, cap_in, port_in}
 use Rattle.session.specs.declared.Core.{Core}
@@ -56,7 +55,7 @@ pub record HeadFits (c : Core) : Type 0 where
   pub lends : c.lends ≤ 64
 
 -- what a reply leaves fits
-abbrev pub NoteFits : Note → Size → (outbox : List ℕ) → Type 0
+abbrev pub NoteFits : Note → Option ℕ → (outbox : List ℕ) → Type 0
 NoteFits n.Nothing z o = Unit {0}
 NoteFits n.Cap z o = CapFits (cap_in o z)
 NoteFits (n.Port i) z o = PortFits (port_in o i)

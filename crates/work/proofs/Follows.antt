@@ -1,4 +1,5 @@
 -- Every task that is under way follows its script: each task's own law, within the machine of all tasks.
+use Rattle.std.specs.Prelude.{Option, Some, None}
 use Prim.Native.Nat.{ℕ}
 use mathlib.Core.Bool.{Bool, true, false}
 use mathlib.Core.List.{List}
@@ -43,8 +44,7 @@ use Rattle.uar.specs.Steps.{bar_asks, bar_step_of, bar_step, bar_script}
 use Rattle.uar.specs.Steps as u
 use Rattle.uar.proofs.Follows.{bar_follows}
 use Rattle.uar.specs.declared.FindBar.{FindBar}
-use Rattle.uar.specs.declared.BarEnding.{BarEnding}
-use Rattle.uar.specs.declared.BarEnding.TheVariants as bg
+use Rattle.uar.specs.Uar.{Found}
 use Rattle.work.specs.Work.{working, work_asks, work_step, work_script, leads, attr_work, claim_work, make_work, free_work, cmd_work, part_work, look_step, reset_on, bar_on, is_resting, WorkFollows}
 use Rattle.work.specs.declared.Task.{Task}
 use Rattle.work.specs.declared.Task.TheVariants as t
@@ -95,9 +95,9 @@ module _ (inbox : List ℕ) (r : Reset) (f : FindBar) where
   reset_led_lem s rg.Going = refl
   reset_led_lem s (rg.Ended v) = refl
 
-  bar_led_lem : (s : FindBar) (g : BarEnding) → led (bar_on (at t.Bar) s g) ≡ wrapped bar_asks bar_step bar_script work_asks work_step (work_script inbox) (λ j. working t.Bar r j) (λ v. e.Bar v) (u.next_of (record { find = s; ending = g }))
-  bar_led_lem s bg.Going = refl
-  bar_led_lem s (bg.Ended v) = refl
+  bar_led_lem : (s : FindBar) (g : Option Found) → led (bar_on (at t.Bar) s g) ≡ wrapped bar_asks bar_step bar_script work_asks work_step (work_script inbox) (λ j. working t.Bar r j) (λ v. e.Bar v) (u.next_of (record { find = s; ending = g }))
+  bar_led_lem s None = refl
+  bar_led_lem s (Some v) = refl
 
   at_task : (k : Task) → is_resting k ≡ false → Follows work_asks work_step (work_script inbox) (at k) (work_script inbox (at k))
   at_task t.Rest h = absurd (subst Holds h tt)

@@ -1,5 +1,5 @@
 -- The tasks of a session as one machine: the question of each, what an answer makes of it, and the script that is left.
-use Rattle.std.specs.Prelude.{ℕ, Bool, true, false, List, ◌≡◌}
+use Rattle.std.specs.Prelude.{ℕ, Bool, true, false, List, ◌≡◌, Option, Some, None}
 use Rattle.hcr.specs.Words.{register, first_toggle, swap_of}
 use Rattle.pci.specs.Views.{dword_of}
 use Rattle.pci.specs.Script.{Script, ret, ask, ◌>>=◌, Bus, good, failed, read}
@@ -33,8 +33,7 @@ use Rattle.tasks.specs.declared.PartingStep.{PartingStep}
 use Rattle.tasks.specs.declared.PartingStep.TheVariants as ps
 use Rattle.uar.specs.Steps.{bar_asks, bar_step_of, bar_script}
 use Rattle.uar.specs.Steps as u
-use Rattle.uar.specs.declared.BarEnding.{BarEnding}
-use Rattle.uar.specs.declared.BarEnding.TheVariants as bg
+use Rattle.uar.specs.Uar.{Found}
 use Rattle.uar.specs.declared.FindBar.{FindBar}
 use Rattle.work.specs.declared.Task.{Task}
 use Rattle.work.specs.declared.Task.TheVariants as t
@@ -110,9 +109,9 @@ reset_on w r (rg.Ended x) = record { work = working t.Rest r w.find; ending = g.
 abbrev pub reset_work : Work → Answer → WorkStep
 reset_work w a = reset_on w (reset_step_of w.reset a).reset (reset_step_of w.reset a).ending
 
-abbrev pub bar_on : Work → FindBar → BarEnding → WorkStep
-bar_on w f bg.Going = record { work = working t.Bar w.reset f; ending = g.Going }
-bar_on w f (bg.Ended x) = record { work = working t.Rest w.reset f; ending = g.Ended (e.Bar x) }
+abbrev pub bar_on : Work → FindBar → Option Found → WorkStep
+bar_on w f None = record { work = working t.Bar w.reset f; ending = g.Going }
+bar_on w f (Some x) = record { work = working t.Rest w.reset f; ending = g.Ended (e.Bar x) }
 
 abbrev pub bar_work : Work → Answer → List ℕ → WorkStep
 bar_work w a bytes = bar_on w (bar_step_of w.find a bytes).find (bar_step_of w.find a bytes).ending

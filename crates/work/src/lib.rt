@@ -5,13 +5,14 @@ ghost use Rattle.std.specs.Prelude.{◌≡◌};
 ghost use Rattle.work.specs.Work.{resting, on_task, end_task, look_step, work_asks, work_step_of};
 ghost use Rattle.work.specs.Work.{attr_work, claim_work, make_work, free_work, cmd_work, part_work, reset_work, bar_work};
 
+use bars::Pick;
 use buffer::{FreeStep, Freeing, Made, MakeStep, Making};
 use command::{Cmd, CmdEnd, CmdStep};
 use hcr::Hcr;
 use pci::{Answer, DwordReply, Question};
 use reset::{Reset, ResetEnd};
 use tasks::{Attr, AttrStep, Attributes, Claim, ClaimStep, Claimed, Parting, PartingStep};
-use uar::{BarEnding, FindBar, Found};
+use uar::{FindBar, NotFound};
 
 // The task that is under way. A reset and a search for the UAR BAR hold arrays and stand beside it. `Look` reads the status dword before the first command.
 #[derive(Clone, Copy)]
@@ -41,7 +42,7 @@ pub enum End {
     Attr(Attributes),
     Claim(Claimed),
     Reset(ResetEnd),
-    Bar(Found),
+    Bar(Result<Pick, NotFound>),
     Made(Made),
     Freed,
     // The toggle of the first command.
@@ -217,7 +218,7 @@ impl Work {
         let find = st.find;
         let ending = st.ending;
         match ending {
-            BarEnding::Going => WorkStep {
+            None => WorkStep {
                 work: Work {
                     task: Task::Bar,
                     find,
@@ -225,7 +226,7 @@ impl Work {
                 },
                 ending: Ending::Going,
             },
-            BarEnding::Ended(x) => WorkStep {
+            Some(x) => WorkStep {
                 work: Work {
                     task: Task::Rest,
                     find,

@@ -1,10 +1,9 @@
 -- WRONG ANSWERS of the functions on replies, the layout and the mailboxes of bring-up, as in `specs/Wrong.antt`. The theorem is `replies_refused`.
-use Rattle.std.specs.Prelude.{ℕ, ◌+◌, ◌^◌, ◌&&◌, List, [], ◌∷◌, ◌++◌, set, take, drop, replicate}
+use Rattle.std.specs.Prelude.{ℕ, ◌+◌, ◌^◌, ◌&&◌, List, [], ◌∷◌, ◌++◌, set, take, drop, replicate, Some, None}
 use Rattle.std.specs.Int.Count.{count_trailing_zeros}
 use Rattle.fields.specs.Outcome.{Outcome, value, value_or, number_of}
 use Rattle.fields.specs.Fields.{put_at}
 use Rattle.fields.specs.declared.Order.TheVariants.{Big}
-use Rattle.bars.specs.declared.Size.TheVariants as s
 use Rattle.reply.specs.Capability.{bit, dev_cap_of, no_caps, capability_of, refused_by}
 use Rattle.reply.specs.Replies.{no_fw, query_fw_of, fw_held, no_port, query_port_of, query_func_of}
 use Rattle.reply.specs.declared.DevCap.{DevCap}
@@ -50,7 +49,7 @@ cap_numbers c =
 
 -- its answers with the BAR's size unknown
 abbrev caps : List ℕ → Outcome DevCap
-caps reply = capability_of reply s.Unknown
+caps reply = capability_of reply None
 
 -- a function of each check: good, short, the smallest page, ports, the UAR field, the UAR area
 abbrev checks : (CapCheck → ℕ) → List ℕ
@@ -110,9 +109,9 @@ capabilities =
     -- dev_cap (a UAR field of 43): refused; refused with 15
     row (said (caps (set cap_reply 0x49 0xeb))) (14 ∷ 43 ∷ []) (15 ∷ 0x8000000000000000 ∷ []) ∷
     -- dev_cap, an area that just fills its BAR: refused; refused with the field
-    row (said (capability_of cap_reply (s.Known 0x800000))) (15 ∷ 0x800000 ∷ []) (14 ∷ 3 ∷ []) ∷
+    row (said (capability_of cap_reply (Some 0x800000))) (15 ∷ 0x800000 ∷ []) (14 ∷ 3 ∷ []) ∷
     -- dev_cap, refused (an area above its BAR): taken; the BAR's size beside it
-    row (said (capability_of cap_reply (s.Known 0x7fffff))) (0 ∷ []) (15 ∷ 0x7fffff ∷ []) ∷
+    row (said (capability_of cap_reply (Some 0x7fffff))) (0 ∷ []) (15 ∷ 0x7fffff ∷ []) ∷
     -- dev_cap, refused (page and ports): the ports first; taken
     row (said (caps (set (set cap_reply 0x4b 13) 0x37 3))) (13 ∷ 3 ∷ []) (0 ∷ []) ∷
     -- dev_cap, refused, what is held: the fields; counts of 1

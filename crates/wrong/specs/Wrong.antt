@@ -1,5 +1,6 @@
 -- WRONG ANSWERS. A contract is an equation of the answer with a definition, so a function that answers otherwise at one input does not meet it. A row has what the definition
 -- gives at an input, as numbers, and two answers that a wrong function would give there. The theorem `wrong_refused` of proofs/ says that neither is the definition's.
+use Rattle.std.specs.Prelude as std
 use Rattle.std.specs.Prelude.{ℕ, ◌-◌, ◌^◌, Bool, true, false, List, [], ◌∷◌, ◌++◌, ◌≡◌, eqb, length, replicate, get_or, take, leb}
 use Rattle.std.proofs.Math.Option.{Option, some, none}
 use Rattle.fields.specs.Outcome.{Outcome, value, refused, number_of, pick}
@@ -23,9 +24,6 @@ use Rattle.bars.specs.Resource.{resource_at}
 use Rattle.bars.specs.Choose as choose
 use Rattle.bars.specs.Steps.{step_of, choose_at}
 use Rattle.bars.specs.declared.BarRange.{BarRange}
-use Rattle.bars.specs.declared.BarRange.TheVariants as b
-use Rattle.bars.specs.declared.Size.{Size}
-use Rattle.bars.specs.declared.Size.TheVariants as s
 use Rattle.bars.specs.declared.How.{How}
 use Rattle.bars.specs.declared.How.TheVariants as h
 use Rattle.bars.specs.declared.Candidate.{Candidate}
@@ -424,9 +422,9 @@ addresses =
     []
 
 -- a choice under way, a pick, and what an answer leads to, as numbers
-abbrev pub range_numbers : BarRange → List ℕ
-range_numbers (b.Range at bytes) = 1 ∷ at ∷ bytes ∷ []
-range_numbers b.NoAnswer = 0 ∷ []
+abbrev pub range_numbers : std.Option BarRange → List ℕ
+range_numbers (std.Some r) = 1 ∷ r.base ∷ r.length ∷ []
+range_numbers std.None = 0 ∷ []
 
 abbrev pub asking_numbers : Asking → List ℕ
 asking_numbers k.First = 1 ∷ []
@@ -439,9 +437,9 @@ candidate_numbers c = c.index ∷ range_numbers c.answer
 abbrev pub choice_numbers : Choice → List ℕ
 choice_numbers c = c.base ∷ (candidate_numbers c.first ++ candidate_numbers c.second ++ asking_numbers c.asking)
 
-abbrev pub size_numbers : Size → List ℕ
-size_numbers (s.Known bytes) = 1 ∷ bytes ∷ []
-size_numbers s.Unknown = 0 ∷ []
+abbrev pub size_numbers : std.Option ℕ → List ℕ
+size_numbers (std.Some bytes) = 1 ∷ bytes ∷ []
+size_numbers std.None = 0 ∷ []
 
 abbrev pub how_number : How → ℕ
 how_number h.BaseMatches = 1
@@ -458,19 +456,19 @@ abbrev pub start_numbers : ℕ × Choice → List ℕ
 start_numbers p = p.0 ∷ choice_numbers p.1
 
 -- candidates 2 and 1 of a base, with what was said of them
-abbrev choice : ℕ → BarRange → BarRange → Asking → Choice
+abbrev choice : ℕ → std.Option BarRange → std.Option BarRange → Asking → Choice
 choice base x y q = record { base = base; first = record { index = 2; answer = x }; second = record { index = 1; answer = y }; asking = q }
 
 -- the base that is looked for, and another
-abbrev hit : BarRange
-hit = b.Range 0xe0000000 0x800000
+abbrev hit : std.Option BarRange
+hit = std.Some (record { base = 0xe0000000; length = 0x800000 })
 
-abbrev miss : BarRange
-miss = b.Range 0xd0000000 0x1000
+abbrev miss : std.Option BarRange
+miss = std.Some (record { base = 0xd0000000; length = 0x1000 })
 
 -- index 0 has the base
-abbrev at_zero : ℕ → BarRange
-at_zero i = pick (eqb i 0) hit b.NoAnswer
+abbrev at_zero : ℕ → std.Option BarRange
+at_zero i = pick (eqb i 0) hit std.None
 
 abbrev pub chosen_numbers : ℕ × How → List ℕ
 chosen_numbers p = p.0 ∷ how_number p.1 ∷ []
@@ -483,33 +481,33 @@ choices =
     -- choose of register 6, refused: begun with index 0; refused with 20
     row (told_by start_numbers (choose_at dwords 6)) (0 ∷ 0 ∷ 0 ∷ 0 ∷ 0 ∷ 0 ∷ 0 ∷ 1 ∷ []) (20 ∷ []) ∷
     -- step, the first candidate answers: its answer is lost; the second is not asked
-    row (told_next (step_of (choice 0xe0000000 b.NoAnswer b.NoAnswer k.First) miss)) (1 ∷ 1 ∷ 0xe0000000 ∷ 2 ∷ 0 ∷ 1 ∷ 0 ∷ 2 ∷ []) (2 ∷ 2 ∷ 1 ∷ 0x1000 ∷ 3 ∷ []) ∷
+    row (told_next (step_of (choice 0xe0000000 std.None std.None k.First) miss)) (1 ∷ 1 ∷ 0xe0000000 ∷ 2 ∷ 0 ∷ 1 ∷ 0 ∷ 2 ∷ []) (2 ∷ 2 ∷ 1 ∷ 0x1000 ∷ 3 ∷ []) ∷
     -- step, the first matches: picked before the second is asked; the second asked as the first
-    row (told_next (step_of (choice 0xe0000000 b.NoAnswer b.NoAnswer k.First) hit))
+    row (told_next (step_of (choice 0xe0000000 std.None std.None k.First) hit))
     (2 ∷ 2 ∷ 1 ∷ 0x800000 ∷ 1 ∷ []) (1 ∷ 1 ∷ 0xe0000000 ∷ 2 ∷ 1 ∷ 0xe0000000 ∷ 0x800000 ∷ 1 ∷ 0 ∷ 1 ∷ []) ∷
     -- step, the second matches: the first is picked; the scan begins
-    row (told_next (step_of (choice 0xe0000000 miss b.NoAnswer k.Second) hit))
+    row (told_next (step_of (choice 0xe0000000 miss std.None k.Second) hit))
     (2 ∷ 2 ∷ 1 ∷ 0x1000 ∷ 1 ∷ []) (1 ∷ 0 ∷ 0xe0000000 ∷ 2 ∷ 1 ∷ 0xd0000000 ∷ 0x1000 ∷ 1 ∷ 1 ∷ 0xe0000000 ∷ 0x800000 ∷ 3 ∷ 0 ∷ []) ∷
     -- step, both match: the second is picked; told as a scan
-    row (told_next (step_of (choice 0xe0000000 hit b.NoAnswer k.Second) hit)) (2 ∷ 1 ∷ 1 ∷ 0x800000 ∷ 1 ∷ []) (2 ∷ 2 ∷ 1 ∷ 0x800000 ∷ 2 ∷ []) ∷
+    row (told_next (step_of (choice 0xe0000000 hit std.None k.Second) hit)) (2 ∷ 1 ∷ 1 ∷ 0x800000 ∷ 1 ∷ []) (2 ∷ 2 ∷ 1 ∷ 0x800000 ∷ 2 ∷ []) ∷
     -- step, none matches: settled without a scan; the scan begins at 3
-    row (told_next (step_of (choice 0xe0000000 miss b.NoAnswer k.Second) b.NoAnswer))
+    row (told_next (step_of (choice 0xe0000000 miss std.None k.Second) std.None))
     (2 ∷ 2 ∷ 1 ∷ 0x1000 ∷ 3 ∷ []) (1 ∷ 3 ∷ 0xe0000000 ∷ 2 ∷ 1 ∷ 0xd0000000 ∷ 0x1000 ∷ 1 ∷ 0 ∷ 3 ∷ 3 ∷ []) ∷
     -- step, the scan behind index 0: the second candidate again; the first again
-    row (told_next (step_of (choice 0xe0000000 b.NoAnswer b.NoAnswer (k.Other 0)) b.NoAnswer))
+    row (told_next (step_of (choice 0xe0000000 std.None std.None (k.Other 0)) std.None))
     (1 ∷ 1 ∷ 0xe0000000 ∷ 2 ∷ 0 ∷ 1 ∷ 0 ∷ 3 ∷ 1 ∷ []) (1 ∷ 2 ∷ 0xe0000000 ∷ 2 ∷ 0 ∷ 1 ∷ 0 ∷ 3 ∷ 2 ∷ []) ∷
     -- step, another index matches: told as a candidate; the scan goes on
-    row (told_next (step_of (choice 0xe0000000 b.NoAnswer b.NoAnswer (k.Other 0)) hit)) (2 ∷ 0 ∷ 1 ∷ 0x800000 ∷ 1 ∷ []) (1 ∷ 3 ∷ 0xe0000000 ∷ 2 ∷ 0 ∷ 1 ∷ 0 ∷ 3 ∷ 3 ∷ []) ∷
+    row (told_next (step_of (choice 0xe0000000 std.None std.None (k.Other 0)) hit)) (2 ∷ 0 ∷ 1 ∷ 0x800000 ∷ 1 ∷ []) (1 ∷ 3 ∷ 0xe0000000 ∷ 2 ∷ 0 ∷ 1 ∷ 0 ∷ 3 ∷ 3 ∷ []) ∷
     -- step, the scan behind index 4: index 5 is left out; index 6 is asked
-    row (told_next (step_of (choice 0xe0000000 b.NoAnswer b.NoAnswer (k.Other 4)) b.NoAnswer)) (2 ∷ 2 ∷ 0 ∷ 5 ∷ []) (1 ∷ 6 ∷ 0xe0000000 ∷ 2 ∷ 0 ∷ 1 ∷ 0 ∷ 3 ∷ 6 ∷ []) ∷
+    row (told_next (step_of (choice 0xe0000000 std.None std.None (k.Other 4)) std.None)) (2 ∷ 2 ∷ 0 ∷ 5 ∷ []) (1 ∷ 6 ∷ 0xe0000000 ∷ 2 ∷ 0 ∷ 1 ∷ 0 ∷ 3 ∷ 6 ∷ []) ∷
     -- step, the scan behind index 5: index 6 is asked; index 5 is picked
-    row (told_next (step_of (choice 0xe0000000 b.NoAnswer b.NoAnswer (k.Other 5)) b.NoAnswer)) (1 ∷ 6 ∷ 0xe0000000 ∷ 2 ∷ 0 ∷ 1 ∷ 0 ∷ 3 ∷ 6 ∷ []) (2 ∷ 5 ∷ 0 ∷ 5 ∷ []) ∷
+    row (told_next (step_of (choice 0xe0000000 std.None std.None (k.Other 5)) std.None)) (1 ∷ 6 ∷ 0xe0000000 ∷ 2 ∷ 0 ∷ 1 ∷ 0 ∷ 3 ∷ 6 ∷ []) (2 ∷ 5 ∷ 0 ∷ 5 ∷ []) ∷
     -- step, only the second answered: the first is picked as the only answer; as no answer
-    row (told_next (step_of (choice 0xe0000000 b.NoAnswer miss (k.Other 5)) b.NoAnswer)) (2 ∷ 2 ∷ 0 ∷ 3 ∷ []) (2 ∷ 2 ∷ 0 ∷ 5 ∷ []) ∷
+    row (told_next (step_of (choice 0xe0000000 std.None miss (k.Other 5)) std.None)) (2 ∷ 2 ∷ 0 ∷ 3 ∷ []) (2 ∷ 2 ∷ 0 ∷ 5 ∷ []) ∷
     -- step, both answered and none matches: the second is picked; told as the only answer
-    row (told_next (step_of (choice 0xe0000000 miss miss (k.Other 5)) b.NoAnswer)) (2 ∷ 1 ∷ 1 ∷ 0x1000 ∷ 4 ∷ []) (2 ∷ 2 ∷ 1 ∷ 0x1000 ∷ 3 ∷ []) ∷
+    row (told_next (step_of (choice 0xe0000000 miss miss (k.Other 5)) std.None)) (2 ∷ 1 ∷ 1 ∷ 0x1000 ∷ 4 ∷ []) (2 ∷ 2 ∷ 1 ∷ 0x1000 ∷ 3 ∷ []) ∷
     -- step, a base of 0: it is matched; the scan begins
-    row (told_next (step_of (choice 0 (b.Range 0 0x1000) b.NoAnswer k.Second) b.NoAnswer)) (2 ∷ 2 ∷ 1 ∷ 0x1000 ∷ 1 ∷ []) (1 ∷ 0 ∷ 0 ∷ 2 ∷ 1 ∷ 0 ∷ 0x1000 ∷ 1 ∷ 0 ∷ 3 ∷ 0 ∷ []) ∷
+    row (told_next (step_of (choice 0 (std.Some (record { base = 0; length = 0x1000 })) std.None k.Second) std.None)) (2 ∷ 2 ∷ 1 ∷ 0x1000 ∷ 1 ∷ []) (1 ∷ 0 ∷ 0 ∷ 2 ∷ 1 ∷ 0 ∷ 0x1000 ∷ 1 ∷ 0 ∷ 3 ∷ 0 ∷ []) ∷
     -- the indices asked where index 0 matches: asked on after the match; the others first
     row (choose.asked 0xe0000000 2 1 at_zero) (2 ∷ 1 ∷ 0 ∷ 3 ∷ 4 ∷ 5 ∷ []) (0 ∷ 2 ∷ 1 ∷ []) ∷
     -- the index picked then, and how: told as a candidate; the first candidate

@@ -1,5 +1,5 @@
 -- WRONG ANSWERS of the functions that take an answer or a call, of a session and of its bytes, as in `wrong/specs/Wrong.antt`.
-use Rattle.std.specs.Prelude.{ℕ, ◌+◌, ◌*◌, ◌-◌, ◌^◌, true, false, List, [], ◌∷◌, ◌++◌, length, replicate, set, take, drop, get_or}
+use Rattle.std.specs.Prelude.{ℕ, ◌+◌, ◌*◌, ◌-◌, ◌^◌, true, false, List, [], ◌∷◌, ◌++◌, length, replicate, set, take, drop, get_or, None}
 use Rattle.fields.specs.Outcome.{Outcome, value, refused, number_of}
 use Rattle.wrong.specs.Wrong.{Row, row, yes}
 use Rattle.wrong_session.specs.Wrong.{why, whole, boxed, opened, having, sending, newest, request, rest, mapping, fw_reply}
@@ -10,7 +10,6 @@ use Rattle.words_calls.specs.Calls.{question_words}
 use Rattle.words_stage.specs.Coding.{form_words}
 use Rattle.pci.specs.declared.Answer.TheVariants as a
 use Rattle.pci.specs.declared.Refusal.TheVariants as no
-use Rattle.bars.specs.declared.Size.TheVariants as size
 use Rattle.dma.specs.declared.Buffer.{Buffer}
 use Rattle.pci.specs.declared.Question.TheVariants as ask
 use Rattle.command.specs.declared.Catas.TheVariants as catas
@@ -208,10 +207,10 @@ bad = e.Cmd (record { result = cmd.Status 2 50; toggle = false })
 abbrev pub stepping : List Row
 stepping =
     -- note_of, QUERY_PORT about port 2 (good, with a status, a reply too short): not noted; noted all the same
-    row (note_words (note_at size.Unknown (g.Boot (b.Port 2)) good (replicate 40 0)) ++ (note_words (note_at size.Unknown (g.Boot (b.Port 2)) bad (replicate 40 0)) ++ note_words (note_at size.Unknown (g.Boot (b.Port 2)) good [])))
+    row (note_words (note_at None (g.Boot (b.Port 2)) good (replicate 40 0)) ++ (note_words (note_at None (g.Boot (b.Port 2)) bad (replicate 40 0)) ++ note_words (note_at None (g.Boot (b.Port 2)) good [])))
     (0 ∷ 0 ∷ 0 ∷ []) (2 ∷ 2 ∷ 2 ∷ 2 ∷ 2 ∷ 2 ∷ []) ∷
     -- note_of, QUERY_PORT about port 2: as port 1; as the capabilities
-    row (note_words (note_at size.Unknown (g.Boot (b.Port 2)) good (replicate 40 0))) (2 ∷ 1 ∷ []) (1 ∷ []) ∷
+    row (note_words (note_at None (g.Boot (b.Port 2)) good (replicate 40 0))) (2 ∷ 1 ∷ []) (1 ∷ []) ∷
     -- asks, a command that begins, nothing under way: a write; the status at another place
     row (question_words (work_asks (work_in sending.work.task few)) ++ question_words (work_asks (work_in t.Rest few))) (6 ∷ 0 ∷ 0x80698 ∷ 0 ∷ 0 ∷ 0 ∷ 0 ∷ 0 ∷ []) (5 ∷ 0 ∷ 0x80680 ∷ 0 ∷ 0 ∷ 0 ∷ 0 ∷ 0 ∷ []) ∷
     -- asks, a reset whose words stand in the bytes, at its pointer: as it begins; as the search for the UAR BAR begins
@@ -247,11 +246,11 @@ stepping =
     -- go_on (the task's word in the bytes): the task of before; nothing under way
     row (one_at 0 (put_task t.Look (image 0 (8 ∷ [])))) (8 ∷ []) (0 ∷ []) ∷
     -- put_note, port 2 (its first word, the port's number): not noted; read as the reply of port 1
-    row (one_at port2_at (noted_in (nt.Port 2) size.Unknown (replicate 40 0) empty)) (0 ∷ []) (1 ∷ []) ∷
+    row (one_at port2_at (noted_in (nt.Port 2) None (replicate 40 0) empty)) (0 ∷ []) (1 ∷ []) ∷
     -- put_note, port 2 (the first word of port 1): noted as port 1 too; port 1 cleared
-    row (one_at port1_at (noted_in (nt.Port 2) size.Unknown (replicate 40 0) (image port1_at (1 ∷ [])))) (2 ∷ []) (0 ∷ []) ∷
+    row (one_at port1_at (noted_in (nt.Port 2) None (replicate 40 0) (image port1_at (1 ∷ [])))) (2 ∷ []) (0 ∷ []) ∷
     -- put_note, nothing to note, too few bytes: the port; cleared
-    row (noted_in nt.Nothing size.Unknown (replicate 40 0) few) (2 ∷ 0 ∷ []) (0 ∷ 0 ∷ []) ∷
+    row (noted_in nt.Nothing None (replicate 40 0) few) (2 ∷ 0 ∷ []) (0 ∷ 0 ∷ []) ∷
     []
 
 -- fw_begin, fw: an answer to the open question

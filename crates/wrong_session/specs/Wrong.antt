@@ -1,5 +1,5 @@
 -- WRONG ANSWERS of functions on a session's parts, as in `wrong/specs/Wrong.antt`.
-use Rattle.std.specs.Prelude.{ℕ, ◌+◌, ◌-◌, ◌^◌, Bool, true, false, List, [], ◌∷◌, ◌++◌, length, replicate, set, drop}
+use Rattle.std.specs.Prelude.{ℕ, ◌+◌, ◌-◌, ◌^◌, Bool, true, false, List, [], ◌∷◌, ◌++◌, length, replicate, set, drop, Ok, Err}
 use Rattle.fields.specs.Outcome.{Outcome, value, refused}
 use Rattle.wrong.specs.Wrong.{Row, row, told, yes}
 use Rattle.words.specs.Words.{at}
@@ -36,8 +36,8 @@ use Rattle.tasks.specs.declared.Attributes.{Attributes}
 use Rattle.tasks.specs.declared.Attributes.TheVariants as ta
 use Rattle.tasks.specs.declared.Claimed.{Claimed}
 use Rattle.tasks.specs.declared.Claimed.TheVariants as tc
-use Rattle.uar.specs.declared.Found.{Found}
-use Rattle.uar.specs.declared.Found.TheVariants as u
+use Rattle.uar.specs.Uar.{Found}
+use Rattle.uar.specs.declared.NotFound.TheVariants as u
 use Rattle.work.specs.Work.{working, resting, work_asks}
 use Rattle.work.specs.declared.Task.{Task}
 use Rattle.work.specs.declared.Task.TheVariants as t
@@ -181,9 +181,9 @@ claimed tc.Good = 0 ∷ []
 claimed tc.Refused = 2 ∷ []
 
 abbrev found : Found → List ℕ
-found (u.Bar y) = 0 ∷ y.index ∷ []
-found u.Refused = 4 ∷ []
-found u.BadList = 27 ∷ []
+found (Ok y) = 0 ∷ y.index ∷ []
+found (Err u.Refused) = 4 ∷ []
+found (Err u.BadList) = 27 ∷ []
 
 abbrev spot : Range → List ℕ
 spot y = y.virt ∷ y.bytes ∷ []
@@ -620,7 +620,7 @@ notes =
     -- claim_in (good, a task of another kind): that counts as good; refused always
     row (claimed (plan.claim_in (e.Claim tc.Good)) ++ claimed (plan.claim_in e.Freed)) (0 ∷ 0 ∷ []) (2 ∷ 2 ∷ []) ∷
     -- bar_in (BAR 2, a task of another kind): BAR 0 from that; refused always
-    row (found (plan.bar_in (e.Bar (u.Bar bar))) ++ found (plan.bar_in e.Freed)) (0 ∷ 2 ∷ 0 ∷ 0 ∷ []) (4 ∷ 4 ∷ []) ∷
+    row (found (plan.bar_in (e.Bar (Ok bar))) ++ found (plan.bar_in e.Freed)) (0 ∷ 2 ∷ 0 ∷ 0 ∷ []) (4 ∷ 4 ∷ []) ∷
     -- toggle_in (looked, toggle 0; a task of another kind): 1 always; 0 from that
     row (yes (plan.toggle_in (e.Looked false)) ∷ yes (plan.toggle_in e.Freed) ∷ []) (1 ∷ 1 ∷ []) (0 ∷ 0 ∷ []) ∷
     -- fw_failure_of (status 0x50, another one, Timeout): 0x50 told as a status; every status told as 10
@@ -762,10 +762,10 @@ preparing =
     -- reset failed: the BAR is looked for; the owner not released
     row (fails (plan.prepare_plan fresh p.Reset (e.Reset x.Save) (newest 0 0))) (3 ∷ 3 ∷ 0 ∷ 4 ∷ 0 ∷ 0 ∷ []) (6 ∷ 9 ∷ 0 ∷ 9 ∷ 0 ∷ 3 ∷ []) ∷
     -- the BAR found (its index): not kept; the first look at once
-    row (leads (plan.prepare_plan fresh p.Bar (e.Bar (u.Bar bar)) (newest 0 0)) ++ ((plan.prepare_plan fresh p.Bar (e.Bar (u.Bar bar)) (newest 0 0)).session.info.uar.index ∷ []))
+    row (leads (plan.prepare_plan fresh p.Bar (e.Bar (Ok bar)) (newest 0 0)) ++ ((plan.prepare_plan fresh p.Bar (e.Bar (Ok bar)) (newest 0 0)).session.info.uar.index ∷ []))
     (3 ∷ 4 ∷ 0 ∷ 5 ∷ 0 ∷ 0 ∷ []) (3 ∷ 6 ∷ 0 ∷ 7 ∷ 0 ∷ 2 ∷ []) ∷
     -- no BAR found: goes on with BAR 0; told as a reset that failed
-    row (fails (plan.prepare_plan fresh p.Bar (e.Bar u.Refused) (newest 0 0))) (3 ∷ 4 ∷ 0 ∷ 5 ∷ 0 ∷ 0 ∷ []) (6 ∷ 8 ∷ 0 ∷ 9 ∷ 0 ∷ 3 ∷ []) ∷
+    row (fails (plan.prepare_plan fresh p.Bar (e.Bar (Err u.Refused)) (newest 0 0))) (3 ∷ 4 ∷ 0 ∷ 5 ∷ 0 ∷ 0 ∷ []) (6 ∷ 8 ∷ 0 ∷ 9 ∷ 0 ∷ 3 ∷ []) ∷
     -- the inbox made: once more; the first look without an outbox
     row (leads (plan.prepare_plan inboxed p.Inbox (e.Made (m.Ready buffer)) (newest 0 0))) (3 ∷ 4 ∷ 0 ∷ 5 ∷ 0 ∷ []) (3 ∷ 6 ∷ 0 ∷ 7 ∷ 0 ∷ []) ∷
     -- no inbox for its address: told as 5; goes on

@@ -1,4 +1,5 @@
 -- WRONG ANSWERS of functions on tasks, as in `wrong/specs/Wrong.antt`. A step is told as 1 and the state that is left, or as 0 and how the task has ended.
+use Rattle.std.specs.Prelude as std
 use Rattle.std.specs.Prelude.{ℕ, ◌-◌, ◌^◌, true, List, [], ◌∷◌, ◌++◌, take, drop, replicate}
 use Rattle.std.proofs.Math.Option.{Option, some, none}
 use Rattle.fields.specs.Outcome.{Outcome, value, refused, number_of}
@@ -11,7 +12,6 @@ use Rattle.words_calls.specs.Calls.{question_words}
 use Rattle.dma.specs.declared.Buffer.{Buffer}
 use Rattle.hcr.specs.declared.Post.{Post}
 use Rattle.bars.specs.declared.BarRange.{BarRange}
-use Rattle.bars.specs.declared.BarRange.TheVariants as br
 use Rattle.bars.specs.declared.Candidate.{Candidate}
 use Rattle.bars.specs.declared.Asking.{Asking}
 use Rattle.bars.specs.declared.Asking.TheVariants as ba
@@ -71,12 +71,10 @@ use Rattle.tasks.specs.declared.PartingStep.TheVariants as ps
 use Rattle.uar.specs.Uar.{found, judging}
 use Rattle.uar.specs.Steps.{index_of, bar_asks, bar_step_of}
 use Rattle.uar.specs.Steps as us
-use Rattle.uar.specs.declared.Found.{Found}
+use Rattle.uar.specs.Uar.{Found}
 use Rattle.uar.specs.declared.BarPhase.{BarPhase}
 use Rattle.uar.specs.declared.BarPhase.TheVariants as up
 use Rattle.uar.specs.declared.FindBar.{FindBar}
-use Rattle.uar.specs.declared.BarEnding.{BarEnding}
-use Rattle.uar.specs.declared.BarEnding.TheVariants as ug
 use Rattle.uar.specs.declared.BarStep.{BarStep}
 use Rattle.work.specs.Work.{working, resting, work_asks, work_step_of}
 use Rattle.work.specs.declared.Task.{Task}
@@ -572,12 +570,12 @@ small_tasks =
 abbrev bar_dwords : List ℕ
 bar_dwords = 0xf0000004 ∷ 0 ∷ 0xe000000c ∷ 0 ∷ 0xd0000000 ∷ 0 ∷ []
 
-abbrev candidate : ℕ → BarRange → Candidate
+abbrev candidate : ℕ → std.Option BarRange → Candidate
 candidate i x = record { index = i; answer = x }
 
 -- the choice for register 2, with the indices 2 and 1
 abbrev choice_at : Asking → Choice
-choice_at k = record { base = 0xe0000000; first = candidate 2 br.NoAnswer; second = candidate 1 br.NoAnswer; asking = k }
+choice_at k = record { base = 0xe0000000; first = candidate 2 std.None; second = candidate 1 std.None; asking = k }
 
 abbrev find_at : BarPhase → FindBar
 find_at p = record { phase = p; dwords = bar_dwords }
@@ -593,8 +591,8 @@ cut = take 45 (resource 0xe0)
 abbrev first_has : Asking → Choice
 first_has k = record {
   base = 0xe0000000;
-  first = candidate 2 (br.Range 0xe0000000 0x2000);
-  second = candidate 1 br.NoAnswer;
+  first = candidate 2 (std.Some (record { base = 0xe0000000; length = 0x2000 }));
+  second = candidate 1 std.None;
   asking = k;
 }
 
@@ -609,9 +607,9 @@ told_pick (refused n vs) = n ∷ vs
 abbrev told_found : Found → List ℕ
 told_found x = told_pick (found x)
 
-abbrev bar_led : FindBar → BarEnding → List ℕ
-bar_led s ug.Going = 1 ∷ (told_phase s.phase ++ s.dwords)
-bar_led s (ug.Ended x) = 0 ∷ told_found x
+abbrev bar_led : FindBar → std.Option Found → List ℕ
+bar_led s std.None = 1 ∷ (told_phase s.phase ++ s.dwords)
+bar_led s (std.Some x) = 0 ∷ told_found x
 
 abbrev told_bar : BarStep → List ℕ
 told_bar st = bar_led st.find st.ending
@@ -664,7 +662,7 @@ searches =
     -- another kind of answer: failed; a list
     row (bar_stepped (up.Choosing (choice_at ba.Second)) a.Done (resource 0xe0)) (1 ∷ 1 ∷ 0xe0000000 ∷ 0 ∷ 2 ∷ 0 ∷ bar_dwords) (0 ∷ 0 ∷ 1 ∷ 0 ∷ 0x2000 ∷ 0 ∷ []) ∷
     -- the script where neither has the base: the others from 1 on; settled at once
-    row (opens told_found (judging 0xe0000000 (candidate 2 br.NoAnswer) (candidate 1 br.NoAnswer))) (1 ∷ 8 ∷ 3 ∷ 0 ∷ 0 ∷ []) (0 ∷ 0 ∷ 2 ∷ 1 ∷ 0 ∷ 4 ∷ []) ∷
+    row (opens told_found (judging 0xe0000000 (candidate 2 std.None) (candidate 1 std.None))) (1 ∷ 8 ∷ 3 ∷ 0 ∷ 0 ∷ []) (0 ∷ 0 ∷ 2 ∷ 1 ∷ 0 ∷ 4 ∷ []) ∷
     []
 
 -- WHAT IS UNDER WAY: a state is told as the first words of its task; an end as the task's number in those words, and what it came to

@@ -1,5 +1,5 @@
 -- WRONG ANSWERS of functions on words, as in `wrong/specs/Wrong.antt`. What is read from words is told by the words that it has.
-use Rattle.std.specs.Prelude.{ℕ, ◌+◌, ◌*◌, ◌-◌, ◌%◌, true, false, List, [], ◌∷◌, ◌++◌, eqb, ltb, length, take, drop, replicate}
+use Rattle.std.specs.Prelude.{ℕ, ◌+◌, ◌*◌, ◌-◌, ◌%◌, true, false, List, [], ◌∷◌, ◌++◌, eqb, ltb, length, take, drop, replicate, Option, Some, None}
 use Rattle.fields.specs.Outcome.{Outcome, value, refused, pick, number_of}
 use Rattle.wrong.specs.Wrong.{Row, row, yes}
 use Rattle.words.specs.Words.{at, within, words_in, put_words, same_words, bit_of, flat}
@@ -19,7 +19,6 @@ use Rattle.in_place.specs.declared.Next.TheVariants as nx
 use Rattle.results.specs.Results.{outcome_words, merged, ports_of, put_said, setup_in}
 use Rattle.results.specs.Books.{area_words, areas_words, ranges_of, lent_of, books_in}
 use Rattle.bars.specs.declared.BarRange.{BarRange}
-use Rattle.bars.specs.declared.BarRange.TheVariants as br
 use Rattle.bars.specs.declared.Candidate.{Candidate}
 use Rattle.bars.specs.declared.Asking.TheVariants as ba
 use Rattle.dma.specs.declared.Virt.TheVariants as lv
@@ -170,14 +169,14 @@ tasks =
 abbrev reset : Reset
 reset = record { phase = rp.Link 0x40 7; dwords = take 16 rising; control = rc.Saved 0x48 8 9 }
 
-abbrev candidate : ℕ → BarRange → Candidate
+abbrev candidate : ℕ → Option BarRange → Candidate
 candidate i x = record { index = i; answer = x }
 
 abbrev find : BarPhase → FindBar
 find p = record { phase = p; dwords = take 6 rising }
 
 abbrev choosing : BarPhase
-choosing = up.Choosing (record { base = 0x50; first = candidate 2 (br.Range 3 4); second = candidate 1 br.NoAnswer; asking = ba.Other 5 })
+choosing = up.Choosing (record { base = 0x50; first = candidate 2 (Some (record { base = 3; length = 4 })); second = candidate 1 None; asking = ba.Other 5 })
 
 abbrev pub besides : List Row
 besides =

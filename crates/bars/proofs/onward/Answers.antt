@@ -1,4 +1,4 @@
-use Rattle.std.proofs.Common.{◌≡◌, ◌-◌, sym, refl, ap, ◌∙◌, add-one, arith, rules}
+use Rattle.std.proofs.Common.{sym, ap, ◌∙◌, add-one}
 use Rattle.bars.specs.Choose.{others_from}
 use Rattle.bars.specs.Steps.{onward_of}
 use Rattle.bars.specs.declared.Next.TheVariants as n
@@ -19,9 +19,3 @@ pub returns : goal.returns
 returns c = let p = c.args.c in let l = c.loop-i in
     ap n.Picked c.settle.ensures
     ∙ ap (onward_of p) (sym (others_end p.first.index p.second.index l.i c.loop-i-test.false) ∙ l.invariant)
-
-pub loop-i-init : goal.loop-i-init
-loop-i-init c = refl
-
-pub loop-i-smaller : goal.loop-i-smaller
-loop-i-smaller c = omega arith

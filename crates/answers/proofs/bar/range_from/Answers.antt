@@ -1,7 +1,0 @@
-use Rattle.answers.proofs.bar.range_from.Goals as goal
-
-pub returns-then-known : goal.returns-then-known
-returns-then-known c = rw c.if-known.true
-
-pub returns : goal.returns
-returns c = rw c.if-known.false
