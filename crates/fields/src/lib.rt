@@ -40,6 +40,10 @@ pub enum Read64 {
     Short,
 }
 
+// Refusal 21: bytes are missing.
+#[derive(Clone, Copy)]
+pub struct Short;
+
 // What writing a field gives: done, or 21 where it passes the end.
 #[derive(Clone, Copy)]
 pub enum Written {
