@@ -9,7 +9,7 @@ ghost use Rattle.buffer.specs.Steps.{pages_in, in_phase, allocated, spotted, map
 ghost use Rattle.buffer.specs.Steps.{start_free, free_on, free_asks, free_step_of};
 ghost use Rattle.buffer.specs.declared.MakeStep.TheVariants.{More};
 
-use dma::{Accepted, Buffer, Pages};
+use dma::Buffer;
 use pci::{Answer, DoneReply, HandleReply, MapReply, Question, Refusal};
 
 // Why there is no buffer: memory was not to be had, or its device address cannot be used.
@@ -89,11 +89,11 @@ impl Making {
         ensures { result ≡ make_of bytes }
     {
         match dma::pages_of(bytes) {
-            Pages::Count(n) => MakeStep::More(Making {
+            Ok(n) => MakeStep::More(Making {
                 bytes: n * dma::PAGE,
                 phase: MakePhase::Allocate,
             }),
-            Pages::Refused => MakeStep::Ended(Made::Refused(Fault::Address)),
+            Err(_) => MakeStep::Ended(Made::Refused(Fault::Address)),
         }
     }
 
@@ -114,9 +114,8 @@ impl Making {
     pub fn asks(self) -> Question
         ensures { result ≡ make_asks self }
     {
-        let phase = self.phase;
-        let pages = self.bytes / dma::PAGE;
-        match phase {
+        let pages = self.page_count();
+        match self.phase {
             MakePhase::Allocate => Question::Allocate(pages),
             MakePhase::Map(handle) => Question::Map(handle, pages * dma::PAGE),
             MakePhase::Unmap(handle, _) => Question::Unmap(handle),
@@ -141,7 +140,7 @@ impl Making {
     {
         let pages = self.page_count();
         match dma::accept(address, pages) {
-            Accepted::Good => {
+            Ok(()) => {
                 if bytes == pages * dma::PAGE {
                     return MakeStep::Ended(Made::Ready(Buffer {
                         handle,
@@ -151,7 +150,7 @@ impl Making {
                 }
                 self.at(MakePhase::Unmap(handle, Fault::Memory))
             }
-            Accepted::Refused => self.at(MakePhase::Unmap(handle, Fault::Address)),
+            Err(_) => self.at(MakePhase::Unmap(handle, Fault::Address)),
         }
     }
 
@@ -189,8 +188,7 @@ impl Making {
     pub fn step(self, a: Answer) -> MakeStep
         ensures { result ≡ make_step_of self a }
     {
-        let phase = self.phase;
-        match phase {
+        match self.phase {
             MakePhase::Allocate => self.granted(pci::as_handle(a)),
             MakePhase::Map(handle) => self.mapped(handle, pci::as_map(a)),
             MakePhase::Unmap(handle, fault) => self.unmap(handle, fault, pci::as_done(a)),
@@ -215,8 +213,7 @@ impl Freeing {
     pub fn asks(self) -> Question
         ensures { result ≡ free_asks self }
     {
-        let phase = self.phase;
-        match phase {
+        match self.phase {
             FreePhase::Unmap => Question::Unmap(self.handle),
             FreePhase::Free => Question::Free(self.handle, self.pages),
         }
@@ -237,12 +234,11 @@ impl Freeing {
     pub fn step(self, a: Answer) -> FreeStep
         ensures { result ≡ free_step_of self a }
     {
-        let phase = self.phase;
         let next = Freeing {
             phase: FreePhase::Free,
             ..self
         };
-        match phase {
+        match self.phase {
             FreePhase::Unmap => self.goes(FreeStep::More(next), pci::as_done(a)),
             FreePhase::Free => self.goes(FreeStep::Freed, pci::as_done(a)),
         }

@@ -1,10 +1,9 @@
 -- The pages that the blocks of a range cover: page k of the range lies on device page k.
+use Rattle.std.specs.Prelude.{Option, Some, None}
 use Rattle.std.proofs.Common.{◌≡◌, ℕ, zero, suc, ◌+◌, ◌-◌, ◌*◌, ◌%◌, ◌^◌, ◌<◌, ◌≤◌, ◌∷◌, ◌++◌, sym, refl, ap, ◌∙◌, ap₂, add-zero, suc-add, zero-add, sub-add_cancel, arith, pow-add}
 use native.Mathlib.Nat.{add-mul-mod_self_right}
 use Rattle.dma.specs.Blocks.{virt_of, onward_of, block_at, blocks_of}
 use Rattle.dma.specs.Pages.{Each, table, cover, pair_at, page_at, pages_of, device_pages}
-use Rattle.dma.specs.declared.Virt.{Virt}
-use Rattle.dma.specs.declared.Virt.TheVariants as v
 use Rattle.dma.specs.declared.Block.{Block}
 use Rattle.dma.proofs.Exponent.{exponent_stands, exponent_largest}
 use Rattle.dma.proofs.Tiling.{log_of, blocks-ind}
@@ -29,19 +28,19 @@ table_shift f g i j (suc n) h =
 pub pages_of_power : (e : ℕ) → 12 ≤ e → 2 ^ e ≡ 2 ^ (e - 12) * 4096
 pages_of_power e h = ap (λ (k : ℕ). 2 ^ k) (sym (sub-add_cancel h)) ∙ pow-add 2 (e - 12) 12
 
-virt_on : (virt : Virt) (m : ℕ) → virt_of virt % 4096 ≡ 0 → virt_of (onward_of virt (m * 4096)) % 4096 ≡ 0
-virt_on (v.At at) m h = add-mul-mod_self_right at m 4096 ∙ h
-virt_on v.Absent m h = h
+virt_on : (virt : Option ℕ) (m : ℕ) → virt_of virt % 4096 ≡ 0 → virt_of (onward_of virt (m * 4096)) % 4096 ≡ 0
+virt_on (Some at) m h = add-mul-mod_self_right at m 4096 ∙ h
+virt_on None m h = h
 
 module _ (largest : ℕ) (allowed : 12 ≤ largest) where
   -- Every exponent is at least 12 where both addresses and the bytes left are page multiples.
-  pub log_page : (virt : Virt) (phys n : ℕ) → virt_of virt % 4096 ≡ 0 → phys % 4096 ≡ 0 → 0 < n → 12 ≤ log_of largest virt phys (n * 4096)
+  pub log_page : (virt : Option ℕ) (phys n : ℕ) → virt_of virt % 4096 ≡ 0 → phys % 4096 ≡ 0 → 0 < n → 12 ≤ log_of largest virt phys (n * 4096)
   log_page virt phys n a b h =
       exponent_largest largest (virt_of virt) phys (n * 4096) 12 (omega arith)
       (record { allowed = allowed; within = omega arith; divides_phys = b; divides_virt = a })
 
   -- what is known of a first block, m pages long, of a range of n pages
-  pub record First (virt : Virt) (phys left n : ℕ) : Type 0 where
+  pub record First (virt : Option ℕ) (phys left n : ℕ) : Type 0 where
     pub m : ℕ
     pub whole : 2 ^ log_of largest virt phys left ≡ m * 4096
     pub log : 12 ≤ log_of largest virt phys left
@@ -51,7 +50,7 @@ module _ (largest : ℕ) (allowed : 12 ≤ largest) where
     pub host : (phys + 2 ^ log_of largest virt phys left) % 4096 ≡ 0
     pub card : virt_of (onward_of virt (2 ^ log_of largest virt phys left)) % 4096 ≡ 0
 
-  pub first : (virt : Virt) (phys left n : ℕ) → left ≡ n * 4096 → virt_of virt % 4096 ≡ 0 → phys % 4096 ≡ 0 → 0 < left → First virt phys left n
+  pub first : (virt : Option ℕ) (phys left n : ℕ) → left ≡ n * 4096 → virt_of virt % 4096 ≡ 0 → phys % 4096 ≡ 0 → 0 < left → First virt phys left n
   first virt phys left n e a b h =
       let l : 12 ≤ log_of largest virt phys left = rw e (log_page virt phys n a b (omega arith)) in
       let m : ℕ = 2 ^ (log_of largest virt phys left - 12) in
@@ -69,7 +68,7 @@ module _ (largest : ℕ) (allowed : 12 ≤ largest) where
         card = ap (λ (k : ℕ). virt_of (onward_of virt k) % 4096) w ∙ virt_on virt m a;
       }
 
-  pub blocks_pages : (virt : Virt) (phys n : ℕ) → virt_of virt % 4096 ≡ 0 → phys % 4096 ≡ 0 → Each (λ b. 12 ≤ b.log) (blocks_of largest virt phys (n * 4096))
+  pub blocks_pages : (virt : Option ℕ) (phys n : ℕ) → virt_of virt % 4096 ≡ 0 → phys % 4096 ≡ 0 → Each (λ b. 12 ≤ b.log) (blocks_of largest virt phys (n * 4096))
   blocks_pages virt phys n a b =
       blocks-ind largest (λ virt phys left bs. (n : ℕ) → left ≡ n * 4096 → virt_of virt % 4096 ≡ 0 → phys % 4096 ≡ 0 → Each (λ b. 12 ≤ b.log) bs)
       (λ virt phys n e a b. tt)
@@ -78,11 +77,11 @@ module _ (largest : ℕ) (allowed : 12 ≤ largest) where
 
   -- What f says of the pages of the blocks is what F says of the pages of the range, where f says of a block what F says of a range that starts
   -- with it, and F of a range m pages on what it says m pages on. `Ok` is for what F says of some card addresses only.
-  module _ {A : Type 0} (f : Block → ℕ → A) (F : Virt → (phys k : ℕ) → A) (Ok : Virt → Type 0)
-      (on : (virt : Virt) (m : ℕ) → Ok virt → Ok (onward_of virt m))
-      (starts : (virt : Virt) (phys left k : ℕ) → Ok virt → f (block_at largest virt phys left) k ≡ F virt phys k)
-      (shifts : (virt : Virt) (phys m k : ℕ) → Ok virt → F (onward_of virt (m * 4096)) (phys + m * 4096) k ≡ F virt phys (m + k)) where
-    covers : (virt : Virt) (phys n : ℕ) → Ok virt → virt_of virt % 4096 ≡ 0 → phys % 4096 ≡ 0 → cover f (blocks_of largest virt phys (n * 4096)) ≡ table (F virt phys) 0 n
+  module _ {A : Type 0} (f : Block → ℕ → A) (F : Option ℕ → (phys k : ℕ) → A) (Ok : Option ℕ → Type 0)
+      (on : (virt : Option ℕ) (m : ℕ) → Ok virt → Ok (onward_of virt m))
+      (starts : (virt : Option ℕ) (phys left k : ℕ) → Ok virt → f (block_at largest virt phys left) k ≡ F virt phys k)
+      (shifts : (virt : Option ℕ) (phys m k : ℕ) → Ok virt → F (onward_of virt (m * 4096)) (phys + m * 4096) k ≡ F virt phys (m + k)) where
+    covers : (virt : Option ℕ) (phys n : ℕ) → Ok virt → virt_of virt % 4096 ≡ 0 → phys % 4096 ≡ 0 → cover f (blocks_of largest virt phys (n * 4096)) ≡ table (F virt phys) 0 n
     unfolding cover table
     covers virt phys n o a b =
         blocks-ind largest (λ virt phys left bs. (n : ℕ) → left ≡ n * 4096 → Ok virt → virt_of virt % 4096 ≡ 0 → phys % 4096 ≡ 0 → cover f bs ≡ table (F virt phys) 0 n)
@@ -102,7 +101,7 @@ module _ (largest : ℕ) (allowed : 12 ≤ largest) where
   page_on at m k = omega arith
 
   -- The device pages that the blocks name are the range's, in order.
-  pub device_pages_lem : (virt : Virt) (phys n : ℕ) → virt_of virt % 4096 ≡ 0 → phys % 4096 ≡ 0
+  pub device_pages_lem : (virt : Option ℕ) (phys n : ℕ) → virt_of virt % 4096 ≡ 0 → phys % 4096 ≡ 0
       → device_pages (blocks_of largest virt phys (n * 4096)) ≡ table (page_at phys) 0 n
   device_pages_lem virt phys n a b =
       covers (λ b. page_at b.phys) (λ virt phys. page_at phys) (λ virt. Unit {0}) (λ virt m o. tt) (λ virt phys left k o. refl) (λ virt phys m k o. page_on phys m k)
@@ -110,19 +109,19 @@ module _ (largest : ℕ) (allowed : 12 ≤ largest) where
 
   -- Page k of the range on the card lies on device page k.
   pub card_pages : (card phys n : ℕ) → card % 4096 ≡ 0 → phys % 4096 ≡ 0
-      → pages_of (blocks_of largest (v.At card) phys (n * 4096)) ≡ table (pair_at card phys) 0 n
+      → pages_of (blocks_of largest (Some card) phys (n * 4096)) ≡ table (pair_at card phys) 0 n
   card_pages card phys n a b =
       covers (λ b. pair_at b.virt b.phys) (λ virt phys. pair_at (virt_of virt) phys) Known known_on (λ virt phys left k o. refl) shifts
-      (v.At card) phys n tt a b
+      (Some card) phys n tt a b
     where
-      Known : Virt → Type 0
-      Known (v.At at) = Unit {0}
-      Known v.Absent = ⊥
+      Known : Option ℕ → Type 0
+      Known (Some at) = Unit {0}
+      Known None = ⊥
 
-      known_on : (virt : Virt) (m : ℕ) → Known virt → Known (onward_of virt m)
-      known_on (v.At at) m o = tt
-      known_on v.Absent m o = o
+      known_on : (virt : Option ℕ) (m : ℕ) → Known virt → Known (onward_of virt m)
+      known_on (Some at) m o = tt
+      known_on None m o = o
 
-      shifts : (virt : Virt) (phys m k : ℕ) → Known virt → pair_at (virt_of (onward_of virt (m * 4096))) (phys + m * 4096) k ≡ pair_at (virt_of virt) phys (m + k)
-      shifts (v.At at) phys m k o = ap₂ (λ (x y : ℕ). (x, y)) (page_on at m k) (page_on phys m k)
-      shifts v.Absent phys m k o = absurd o
+      shifts : (virt : Option ℕ) (phys m k : ℕ) → Known virt → pair_at (virt_of (onward_of virt (m * 4096))) (phys + m * 4096) k ≡ pair_at (virt_of virt) phys (m + k)
+      shifts (Some at) phys m k o = ap₂ (λ (x y : ℕ). (x, y)) (page_on at m k) (page_on phys m k)
+      shifts None phys m k o = absurd o

@@ -1,10 +1,13 @@
 -- Laws of the page list: the turns of the loop that writes it, and that an entry fits.
-use Rattle.std.proofs.Common.{◌≡◌, ℕ, zero, suc, ◌+◌, ◌-◌, ◌*◌, ◌/◌, ◌%◌, ◌^◌, ◌<◌, ◌≤◌, List, [], ◌∷◌, length, sym, refl, ap, ◌∙◌, ap₂, add-zero, mul-le-mul_right, suc-mul, lt_of_mul-lt-mul_right, pow-suc, div-add-mod', sub-add_cancel, add-one, arith, pow-add, eq-eqb, ne_eqb, le-leb}
+use Rattle.std.specs.Prelude.{Some, None}
+use Rattle.std.proofs.Math.Option as m
+use Rattle.std.proofs.Common.{◌≡◌, Bool, true, false, eqb, eqb-true, ℕ, zero, suc, ◌+◌, ◌-◌, ◌*◌, ◌/◌, ◌%◌, ◌^◌, ◌<◌, ◌≤◌, List, [], ◌∷◌, length, sym, refl, ap, ◌∙◌, ap₂, add-zero, mul-le-mul_right, suc-mul, lt_of_mul-lt-mul_right, pow-suc, div-add-mod', sub-add_cancel, add-one, arith, pow-add, eq-eqb, ne_eqb, le-leb}
+use Rattle.fields.specs.Outcome.{pick}
 use Rattle.fields.specs.Fields.{put_at, written_at}
 use Rattle.fields.specs.declared.Order.{Order}
 use Rattle.fields.specs.declared.Order.TheVariants.{Big}
 use Rattle.fields.proofs.Laws.{length_put}
-use Rattle.dma.specs.Blocks.{block_of, rest_of, virt_of, exponent_of}
+use Rattle.dma.specs.Blocks.{block_of, rest_of, virt_of, exponent_of, cut_of, piece}
 use Rattle.dma.specs.PageList.{word_of, entry_at, list_at, first_blocks, behind, listed_of}
 use Rattle.dma.specs.declared.Block.{Block}
 use Rattle.dma.specs.declared.Cutter.{Cutter}
@@ -61,6 +64,34 @@ module _ (largest : ℕ) (c : Cutter) where
     list-turn s =
         ap (λ (k : ℕ). list_at (entry_at s n (block_of largest c)) k (first_blocks largest (m - (n + 1)) (rest_of largest c))) (add-one n)
         ∙ sym (ap (list_at s n) first-turn)
+
+-- what a cut says of what is left: nothing, or the first block and what is behind it
+module _ (largest : ℕ) (c : Cutter) where
+  next : Block × Cutter
+  next = (block_of largest c, rest_of largest c)
+
+  none_by : (t : Bool) → eqb c.left 0 ≡ t → m.none ≡ pick t m.none (m.some next) → c.left ≡ 0
+  none_by true e h = eqb-true c.left 0 e
+  none_by false e h = cc
+
+  pub cut_none : piece None ≡ cut_of largest c → c.left ≡ 0
+  unfolding next
+  cut_none h = none_by (eqb c.left 0) refl h
+
+  pub record Next (b : Block) (r : Cutter) : Type 0 where
+    pub more : c.left ≡ 0 → ⊥
+    pub block : b ≡ block_of largest c
+    pub rest : r ≡ rest_of largest c
+
+  more_by : (p : Block × Cutter) (t : Bool) → eqb c.left 0 ≡ t → m.some p ≡ pick t m.none (m.some next) → (eqb c.left 0 ≡ false) × (p ≡ next)
+  more_by p true e h = cc
+  more_by p false e h = (e, cc)
+
+  pub cut_some : (b : Block) (r : Cutter) → piece (Some (b, r)) ≡ cut_of largest c → Next b r
+  unfolding next
+  cut_some b r h =
+      let both = more_by (b, r) (eqb c.left 0) refl h in
+      record { more = λ z. let y = eq-eqb c.left 0 z in let n = both.0 in cc; block = ap (λ (p : Block × Cutter). p.0) both.1; rest = ap (λ (p : Block × Cutter). p.1) both.1 }
 
 -- the end of the loop, with nothing more to list: it has listed what was to be listed
 pub ended : (largest m n : ℕ) (c₀ c : Cutter) (s s₀ : List ℕ) → first_blocks largest (m - n) c ≡ [] → behind largest (m - n) c ≡ c

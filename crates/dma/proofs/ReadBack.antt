@@ -1,4 +1,5 @@
 -- A mailbox reads back as the blocks that it carries, and is 0 behind them.
+use Rattle.std.specs.Prelude.{Option, Some, None}
 use Rattle.std.proofs.Common.{◌≡◌, ℕ, suc, ◌+◌, ◌-◌, ◌*◌, ◌/◌, ◌%◌, ◌^◌, ◌<◌, ◌≤◌, List, [], ◌∷◌, length, get_or, replicate, sym, refl, ◌∙◌, subst, ap₂, mod-eq_of_lt, arith}
 use lib.ListN.{length-replicate, get_or-replicate}
 use Rattle.fields.specs.Fields.{be, put_at}
@@ -7,8 +8,6 @@ use Rattle.fields.proofs.Laws.{number_put, number_apart, put_outside, length_put
 use Rattle.dma.specs.Blocks.{virt_of, onward_of, blocks_of}
 use Rattle.dma.specs.Pages.{Each, table, Within}
 use Rattle.dma.specs.PageList.{word_of, entry_at, list_at, mailbox_of, block_in, list_in, Carried}
-use Rattle.dma.specs.declared.Virt.{Virt}
-use Rattle.dma.specs.declared.Virt.TheVariants as v
 use Rattle.dma.specs.declared.Block.{Block}
 use Rattle.dma.proofs.Exponent.{exponent_stands, exponent_le}
 use Rattle.dma.proofs.Lists.{length_entry, below_pow}
@@ -75,12 +74,12 @@ mailbox_read bs h c =
 pub mailbox_tail : (bs : List Block) (j : ℕ) → length bs * 16 ≤ j → j < 4096 → get_or (mailbox_of bs) j 0 ≡ 0
 mailbox_tail bs j h l = list_behind (replicate 4096 0) 0 bs j (omega arith) ∙ get_or-replicate 4096 j 0 0 l
 
-on_end : (virt : Virt) (n left : ℕ) → n ≤ left → virt_of virt + left ≤ 2 ^ 64 → virt_of (onward_of virt n) + (left - n) ≤ 2 ^ 64
-on_end (v.At at) n left l h = omega arith
-on_end v.Absent n left l h = omega arith
+on_end : (virt : Option ℕ) (n left : ℕ) → n ≤ left → virt_of virt + left ≤ 2 ^ 64 → virt_of (onward_of virt n) + (left - n) ≤ 2 ^ 64
+on_end (Some at) n left l h = omega arith
+on_end None n left l h = omega arith
 
 -- An entry can carry each block of a range of pages that ends at 2^64 or below.
-pub blocks_carried : (largest : ℕ) → 12 ≤ largest → (virt : Virt) (phys n : ℕ) → virt_of virt % 4096 ≡ 0 → phys % 4096 ≡ 0
+pub blocks_carried : (largest : ℕ) → 12 ≤ largest → (virt : Option ℕ) (phys n : ℕ) → virt_of virt % 4096 ≡ 0 → phys % 4096 ≡ 0
     → Within (record { virt = virt; phys = phys; left = n * 4096 }) → Each Carried (blocks_of largest virt phys (n * 4096))
 blocks_carried largest allowed virt phys n a b w =
     blocks-ind largest

@@ -1,11 +1,10 @@
 -- The steps of the cutter follow the definition: in a range that ends at 2^64 or below, the blocks cut are the blocks of the range.
+use Rattle.std.specs.Prelude.{Option, Some, None}
 use Rattle.std.proofs.Common.{◌≡◌, ℕ, zero, suc, ◌+◌, ◌-◌, ◌%◌, ◌^◌, ◌<◌, ◌≤◌, true, ◌&&◌, leb, ◌⊎◌, List, [], ◌∷◌, ◌++◌, length, take, drop, sym, refl, ap, ◌∙◌, subst, ap₂, ⊎_elim, mod-eq_of_lt, eq-zero-or-pos, arith, length-drop, take-append-drop, pow_pos, leb-true}
 use Rattle.dma.specs.Buffers.{is_page, ends_within}
 use Rattle.dma.specs.Blocks.{virt_of, onward_of, wrapped, block_at, blocks_from, blocks_of, block_of, rest_of, after_of}
 use Rattle.dma.specs.PageList.{first_blocks, behind}
 use Rattle.dma.specs.Pages.{blocks_in, Within, split_by, mailboxes}
-use Rattle.dma.specs.declared.Virt.{Virt}
-use Rattle.dma.specs.declared.Virt.TheVariants as v
 use Rattle.dma.specs.declared.Block.{Block}
 use Rattle.dma.specs.declared.Cutter.{Cutter}
 use Rattle.dma.proofs.Exponent.{exponent_stands, and_left, and_right}
@@ -14,7 +13,7 @@ use Rattle.dma.proofs.Tiling.{log_of}
 
 module _ (largest : ℕ) where
   -- more fuel than bytes changes nothing
-  fuel_any : (f g : ℕ) (virt : Virt) (phys left : ℕ) → left ≤ f → left ≤ g → blocks_from largest f virt phys left ≡ blocks_from largest g virt phys left
+  fuel_any : (f g : ℕ) (virt : Option ℕ) (phys left : ℕ) → left ≤ f → left ≤ g → blocks_from largest f virt phys left ≡ blocks_from largest g virt phys left
   unfolding blocks_from
   fuel_any zero zero virt phys left a b = refl
   fuel_any zero (suc g) virt phys zero a b = refl
@@ -27,13 +26,13 @@ module _ (largest : ℕ) where
       let p = pow_pos (log_of largest virt phys (suc l)) in
       ap (λ (bs : List Block). block_at largest virt phys (suc l) ∷ bs) (fuel_any f g (onward_of virt n) (phys + n) (suc l - n) (omega arith) (omega arith))
 
-  pub blocks_none : (virt : Virt) (phys left : ℕ) → left ≡ 0 → blocks_of largest virt phys left ≡ []
+  pub blocks_none : (virt : Option ℕ) (phys left : ℕ) → left ≡ 0 → blocks_of largest virt phys left ≡ []
   unfolding blocks_from
   blocks_none virt phys zero e = refl
   blocks_none virt phys (suc l) e = absurd (omega arith)
 
   -- the first block of a range, and the blocks of the rest
-  pub blocks_more : (virt : Virt) (phys left : ℕ) → 0 < left → blocks_of largest virt phys left
+  pub blocks_more : (virt : Option ℕ) (phys left : ℕ) → 0 < left → blocks_of largest virt phys left
       ≡ block_at largest virt phys left ∷ blocks_of largest (onward_of virt (2 ^ log_of largest virt phys left)) (phys + 2 ^ log_of largest virt phys left) (left - 2 ^ log_of largest virt phys left)
   unfolding blocks_from
   blocks_more virt phys zero h = absurd (omega arith)
@@ -43,16 +42,16 @@ module _ (largest : ℕ) where
       ap (λ (bs : List Block). block_at largest virt phys (suc l) ∷ bs) (fuel_any l (suc l - n) (onward_of virt n) (phys + n) (suc l - n) (omega arith) (omega arith))
 
   -- an address behind which bytes are left is below 2^64
-  wrap_not : (virt : Virt) (n : ℕ) → virt_of virt + n < 2 ^ 64 → wrapped virt n ≡ onward_of virt n
-  wrap_not (v.At at) n h = ap v.At (mod-eq_of_lt h)
-  wrap_not v.Absent n h = refl
+  wrap_not : (virt : Option ℕ) (n : ℕ) → virt_of virt + n < 2 ^ 64 → wrapped virt n ≡ onward_of virt n
+  wrap_not (Some at) n h = ap Some (mod-eq_of_lt h)
+  wrap_not None n h = refl
 
-  wrapped_end : (virt : Virt) (n left : ℕ) → virt_of virt + left ≤ 2 ^ 64 → n ≤ left → virt_of (wrapped virt n) + (left - n) ≤ 2 ^ 64
-  wrapped_end (v.At at) n left h l = host-end at n left h l
+  wrapped_end : (virt : Option ℕ) (n left : ℕ) → virt_of virt + left ≤ 2 ^ 64 → n ≤ left → virt_of (wrapped virt n) + (left - n) ≤ 2 ^ 64
+  wrapped_end (Some at) n left h l = host-end at n left h l
     where
       host-end : (at n left : ℕ) → at + left ≤ 2 ^ 64 → n ≤ left → (at + n) % 2 ^ 64 + (left - n) ≤ 2 ^ 64
       host-end at n left h l = omega arith
-  wrapped_end v.Absent n left h l = omega arith
+  wrapped_end None n left h l = omega arith
 
   module _ (c : Cutter) (w : Within c) (h : 0 < c.left) where
     n : ℕ
@@ -66,7 +65,7 @@ module _ (largest : ℕ) where
     same_rest =
         ⊎_elim
         (λ z. blocks_none (onward_of c.virt n) (c.phys + n) (c.left - n) z ∙ sym (blocks_none (wrapped c.virt n) ((c.phys + n) % 2 ^ 64) (c.left - n) z))
-        (λ p. ap₂ (λ (x : Virt) (y : ℕ). blocks_of largest x y (c.left - n)) (sym (wrap_not c.virt n (omega (arith, w.card)))) (sym (mod-eq_of_lt (omega (arith, w.host)))))
+        (λ p. ap₂ (λ (x : Option ℕ) (y : ℕ). blocks_of largest x y (c.left - n)) (sym (wrap_not c.virt n (omega (arith, w.card)))) (sym (mod-eq_of_lt (omega (arith, w.host)))))
 
     -- a step cuts the first block, and leaves the blocks of the rest
     pub rest-blocks : blocks_in largest c ≡ block_of largest c ∷ blocks_in largest (rest_of largest c)
@@ -122,7 +121,7 @@ ends : (at bytes : ℕ) → ends_within at bytes ≡ true → at + bytes ≤ 2 ^
 ends at bytes e = leb-true (at + bytes) (2 ^ 64) (and_right (leb bytes (2 ^ 64 - 4096)) (leb (at + bytes) (2 ^ 64)) e)
 
 -- A range that `blocks` accepts ends at 2^64 or below, in both addresses.
-pub start_within : (virt : Virt) (phys size : ℕ) → (is_page phys && (ends_within phys size && ends_within (virt_of virt) size)) ≡ true
+pub start_within : (virt : Option ℕ) (phys size : ℕ) → (is_page phys && (ends_within phys size && ends_within (virt_of virt) size)) ≡ true
     → Within (record { virt = virt; phys = phys; left = size })
 start_within virt phys size e =
     let f = and_right (is_page phys) (ends_within phys size && ends_within (virt_of virt) size) e in

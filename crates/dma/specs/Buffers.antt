@@ -1,10 +1,7 @@
 -- Buffers: how many pages one has, and which device addresses can be used. Document 01, "A page is 4,096 bytes."
-use Rattle.std.specs.Prelude.{ℕ, ◌+◌, ◌-◌, ◌*◌, ◌/◌, ◌%◌, ◌^◌, max, Bool, ◌&&◌, [], ◌==◌, nat_le}
+use Rattle.std.specs.Prelude.{ℕ, ◌+◌, ◌-◌, ◌*◌, ◌/◌, ◌%◌, ◌^◌, max, Bool, ◌&&◌, [], ◌==◌, nat_le, Result, Ok, Err}
 use Rattle.fields.specs.Outcome.{Outcome, value, refused, pick}
-use Rattle.dma.specs.declared.Pages.{Pages}
-use Rattle.dma.specs.declared.Pages.TheVariants as p
-use Rattle.dma.specs.declared.Accepted.{Accepted}
-use Rattle.dma.specs.declared.Accepted.TheVariants as a
+use Rattle.dma.specs.declared.BadAddress.{BadAddress}
 
 -- a whole number of pages, "A buffer of 0 bytes has one page."; 18 where the bytes are "above 2^64 − 4,096"
 abbrev pub pages_for : ℕ → Outcome ℕ
@@ -22,10 +19,10 @@ abbrev pub accept_at : (dev pages : ℕ) → Outcome Unit
 accept_at dev pages = pick (is_page dev && ends_within dev (pages * 4096)) (value tt) (refused 18 [])
 
 -- what each answer stands for
-abbrev pub page_count : Pages → Outcome ℕ
-page_count (p.Count n) = value n
-page_count p.Refused = refused 18 []
+abbrev pub page_count : Result ℕ BadAddress → Outcome ℕ
+page_count (Ok n) = value n
+page_count (Err e) = refused 18 []
 
-abbrev pub accepted : Accepted → Outcome Unit
-accepted a.Good = value tt
-accepted a.Refused = refused 18 []
+abbrev pub accepted : Result Unit BadAddress → Outcome Unit
+accepted (Ok u) = value tt
+accepted (Err e) = refused 18 []

@@ -2,17 +2,16 @@
 -- minus 12 in its low bits."
 -- Public document: ConnectX-3 Programmer's Reference Manual, the mailbox of MAP_FA, MAP_ICM_AUX and
 -- MAP_ICM. It was not at hand.
-use Rattle.std.specs.Prelude.{◌≡◌, ℕ, zero, suc, ◌+◌, ◌-◌, ◌*◌, ◌/◌, ◌%◌, ◌^◌, ◌<◌, ◌≤◌, min, List, [], ◌∷◌, length, replicate, ◌==◌}
+use Rattle.std.specs.Prelude.{◌≡◌, ℕ, zero, suc, ◌+◌, ◌-◌, ◌*◌, ◌/◌, ◌%◌, ◌^◌, ◌<◌, ◌≤◌, min, List, [], ◌∷◌, length, replicate, ◌==◌, Result, Ok, Err}
 use Rattle.fields.specs.Outcome.{Outcome, value, refused, pick}
 use Rattle.fields.specs.Fields.{be, put_at}
 use Rattle.fields.specs.declared.Order.TheVariants.{Big}
+use Rattle.fields.specs.declared.Short.{Short}
 use Rattle.dma.specs.Blocks.{block_of, rest_of}
 use Rattle.dma.specs.Pages.{table}
 use Rattle.dma.specs.declared.Block.{Block}
 use Rattle.dma.specs.declared.Cutter.{Cutter}
 use Rattle.dma.specs.declared.Listed.{Listed}
-use Rattle.dma.specs.declared.PageList.{PageList}
-use Rattle.dma.specs.declared.PageList.TheVariants as l
 
 -- "host address with exponent minus 12 in its low bits"; an exponent below 12, which no session has, counts as 12
 abbrev pub word_of : Block → ℕ
@@ -65,6 +64,6 @@ fill_at largest capacity c s = pick (length s == 4096) (value (listed_of largest
 abbrev pub filled_at : (largest capacity : ℕ) → Cutter → List ℕ → List ℕ
 filled_at largest capacity c s = pick (length s == 4096) (mailbox_of (first_blocks largest (min capacity 256) c)) s
 
-abbrev pub page_list : PageList → Outcome Listed
-page_list (l.Filled m) = value m
-page_list l.Short = refused 21 []
+abbrev pub page_list : Result Listed Short → Outcome Listed
+page_list (Ok m) = value m
+page_list (Err e) = refused 21 []

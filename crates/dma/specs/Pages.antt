@@ -1,12 +1,11 @@
 -- What a list of blocks covers: bytes, and pages of the card on pages of the device.
-use Rattle.std.specs.Prelude.{◌≡◌, ℕ, zero, suc, ◌+◌, ◌-◌, ◌*◌, ◌%◌, ◌^◌, ◌≤◌, List, [], ◌∷◌, ◌++◌, length, take, drop}
+use Rattle.std.specs.Prelude.{◌≡◌, ℕ, zero, suc, ◌+◌, ◌-◌, ◌*◌, ◌%◌, ◌^◌, ◌≤◌, List, [], ◌∷◌, ◌++◌, length, take, drop, Option}
 use Rattle.dma.specs.Blocks.{virt_of, onward_of, blocks_of}
-use Rattle.dma.specs.declared.Virt.{Virt}
 use Rattle.dma.specs.declared.Block.{Block}
 use Rattle.dma.specs.declared.Cutter.{Cutter}
 
 -- the blocks follow one another from these addresses on without gap or overlap, and cover exactly `left` bytes
-unfoldable pub Tiles : Virt → (phys left : ℕ) → List Block → Type 0
+unfoldable pub Tiles : Option ℕ → (phys left : ℕ) → List Block → Type 0
 Tiles virt phys left [] = left ≡ 0
 Tiles virt phys left (b ∷ bs) =
     (b.virt ≡ virt_of virt) × (b.phys ≡ phys) × (2 ^ b.log ≤ left) × Tiles (onward_of virt (2 ^ b.log)) (phys + 2 ^ b.log) (left - 2 ^ b.log) bs

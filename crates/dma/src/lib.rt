@@ -1,10 +1,12 @@
 // Memory that the card reads and writes: the record of a buffer, the blocks that a range is cut into, and the page list of one mailbox.
 #![tactic(auto)]
 
-ghost use Rattle.std.specs.Prelude.{◌≡◌, ◌+◌, ◌-◌, ◌*◌, ◌^◌, ◌<◌, ◌≤◌, min, length};
+ghost use Rattle.std.specs.Prelude.{◌≡◌, ◌+◌, ◌-◌, ◌*◌, ◌^◌, ◌<◌, ◌≤◌, length};
 ghost use Rattle.dma.specs.Buffers.{pages_for, page_count, accept_at, accepted, ends_within};
-ghost use Rattle.dma.specs.Blocks.{virt_of, stands, power_of, after_of, taken_of, cut_of, piece, wrapped, start_at, started};
+ghost use Rattle.dma.specs.Blocks.{virt_of, stands, exponent_of, after_of, cut_of, piece, start_at, started};
 ghost use Rattle.dma.specs.PageList.{word_of, entry_at, list_at, first_blocks, listed_of, fill_at, filled_at, page_list};
+
+use fields::Short;
 
 // The bytes of a page; the most bytes that a buffer may have, and the pages in 2^64 bytes.
 pub const PAGE: u64 = 4096;
@@ -12,6 +14,10 @@ pub const PAGE: u64 = 4096;
 const BYTES_MAX: u64 = u64::MAX - 4095;
 
 const PAGES_MAX: u64 = 4503599627370496;
+
+// Refusal 18: an address that no page starts at, an end above 2^64, or too many bytes.
+#[derive(Clone, Copy)]
+pub struct BadAddress;
 
 // Pages that the host handed over, and where the device sees them.
 #[derive(Clone, Copy)]
@@ -21,40 +27,12 @@ pub struct Buffer {
     pub pages: u64,
 }
 
-// How many pages a number of bytes takes, or 18.
-#[derive(Clone, Copy)]
-pub enum Pages {
-    Count(u64),
-    Refused,
-}
-
-// A device address that can be used, or 18.
-#[derive(Clone, Copy)]
-pub enum Accepted {
-    Good,
-    Refused,
-}
-
-// A card address, or none: the firmware and auxiliary areas have none.
-#[derive(Clone, Copy)]
-pub enum Virt {
-    At(u64),
-    Absent,
-}
-
-// A range that is still to be cut: its card and host address, and the bytes left.
+// A range that is still to be cut: its card address (the firmware and auxiliary areas have none), its host address, and the bytes left.
 #[derive(Clone, Copy)]
 pub struct Cutter {
-    pub virt: Virt,
+    pub virt: Option<u64>,
     pub phys: u64,
     pub left: u64,
-}
-
-// A range ready to be cut, or 18.
-#[derive(Clone, Copy)]
-pub enum Started {
-    Ready(Cutter),
-    Refused,
 }
 
 // A block of 2^log bytes at a card address (0 if absent) and a host address.
@@ -65,34 +43,6 @@ pub struct Block {
     pub log: u32,
 }
 
-impl Block {
-    // The exponent of a page, and the largest of a block.
-    pub const LOG_PAGE: u32 = 12;
-
-    pub const LOG_MAX: u32 = 63;
-}
-
-// The next block and what is left behind it, or the end.
-#[derive(Clone, Copy)]
-pub enum Piece {
-    Next(Block, Cutter),
-    End,
-}
-
-// A block that was cut, and what is left behind it.
-#[derive(Clone, Copy)]
-struct Taken {
-    block: Block,
-    rest: Cutter,
-}
-
-// A power of two: size is 2^log.
-#[derive(Clone, Copy)]
-struct Power {
-    log: u32,
-    size: u64,
-}
-
 // The blocks of one mailbox: how many, and what is left behind them.
 #[derive(Clone, Copy)]
 pub struct Listed {
@@ -100,14 +50,7 @@ pub struct Listed {
     pub rest: Cutter,
 }
 
-// A mailbox with its page list, or 21 for one that has not 4,096 bytes.
-#[derive(Clone, Copy)]
-pub enum PageList {
-    Filled(Listed),
-    Short,
-}
-
-impl PageList {
+impl Listed {
     // The bytes of a mailbox and of an entry, and the most blocks that a mailbox carries.
     pub const BYTES: usize = 4096;
 
@@ -117,193 +60,122 @@ impl PageList {
 }
 
 // The pages of a buffer of that many bytes.
-pub fn pages_of(bytes: u64) -> Pages
+pub fn pages_of(bytes: u64) -> Result<u64, BadAddress>
     ensures { page_count result ≡ pages_for bytes }
 {
     if BYTES_MAX < bytes {
-        return Pages::Refused;
+        return Err(BadAddress);
     }
-    if bytes == 0 {
-        return Pages::Count(1);
-    }
-    Pages::Count((bytes + 4095) / PAGE)
+    Ok(bytes.div_ceil(PAGE).max(1))
 }
 
 // A buffer of that many pages can be used at that device address. Nothing is multiplied or added, so nothing overflows.
-pub fn accept(dev: u64, pages: u64) -> Accepted
+pub fn accept(dev: u64, pages: u64) -> Result<(), BadAddress>
     ensures { accepted result ≡ accept_at dev pages }
 {
-    if dev % PAGE != 0 {
-        return Accepted::Refused;
+    if dev % PAGE == 0 && pages < PAGES_MAX && dev / PAGE <= PAGES_MAX - pages {
+        return Ok(());
     }
-    if PAGES_MAX <= pages {
-        return Accepted::Refused;
-    }
-    if PAGES_MAX - pages < dev / PAGE {
-        return Accepted::Refused;
-    }
-    Accepted::Good
+    Err(BadAddress)
 }
 
 // A range ends at 2^64 or below, and has no more bytes than a buffer may have.
 fn ends_within(at: u64, bytes: u64) -> bool
     ensures { result ≡ ends_within at bytes }
 {
-    if BYTES_MAX < bytes {
-        return false;
-    }
-    if bytes == 0 {
-        return true;
-    }
-    if at <= u64::MAX - (bytes - 1) {
-        return true;
-    }
-    false
+    bytes <= BYTES_MAX && at <= u64::MAX - bytes.saturating_sub(1)
 }
 
-// The card address, or 0 if absent.
-fn virt_or_zero(v: Virt) -> u64
-    ensures { result ≡ virt_of v }
-{
-    match v {
-        Virt::At(at) => at,
-        Virt::Absent => 0,
-    }
-}
-
-// The range of size bytes at a host address and perhaps a card address, ready to be cut into blocks.
-pub fn blocks(virt: Virt, phys: u64, size: u64) -> Started
-    ensures { started result ≡ start_at virt phys size }
-{
-    if phys % PAGE != 0 {
-        return Started::Refused;
-    }
-    if ends_within(phys, size) {
-        if ends_within(virt_or_zero(virt), size) {
-            return Started::Ready(Cutter {
+impl Cutter {
+    // The range of size bytes at a host address and perhaps a card address, ready to be cut into blocks.
+    pub fn new(virt: Option<u64>, phys: u64, size: u64) -> Result<Cutter, BadAddress>
+        ensures { started result ≡ start_at virt phys size }
+    {
+        if phys % PAGE == 0 && ends_within(phys, size) && ends_within(virt.unwrap_or(0), size) {
+            return Ok(Cutter {
                 virt,
                 phys,
                 left: size,
             });
         }
-        return Started::Refused;
+        Err(BadAddress)
     }
-    Started::Refused
-}
 
-// A block of size bytes, 2^log, can stand at the addresses with left bytes to go.
-fn can_stand(largest: u32, virt: u64, phys: u64, left: u64, p: Power) -> bool
-    requires { p.size ≡ 2 ^ p.log }
-    ensures { result ≡ stands largest virt phys left p.log }
-{
-    if largest < p.log {
-        return false;
+    // A block of 2^log bytes can stand at the addresses.
+    fn can_stand(self, largest: u32, log: u32) -> bool
+        requires { log < 64 }
+        ensures { result ≡ stands largest (virt_of self.virt) self.phys self.left log }
+    {
+        let size = 1u64 << log;
+        let virt = self.virt.unwrap_or(0);
+        log <= largest && size <= self.left && self.phys % size == 0 && virt % size == 0
     }
-    if left < p.size {
-        return false;
-    }
-    if phys % p.size != 0 {
-        return false;
-    }
-    if virt % p.size != 0 {
-        return false;
-    }
-    true
-}
 
-// The power of the next block.
-fn largest_power(largest: u32, virt: u64, phys: u64, left: u64) -> Power
-    ensures { result ≡ power_of largest virt phys left }
-{
-    let mut p = Power {
-        log: Block::LOG_MAX,
-        size: 9223372036854775808,
-    };
-    while 0 < p.log {
-        if can_stand(largest, virt, phys, left, p) {
-            return p;
+    // The exponent of the next block.
+    fn next_log(self, largest: u32) -> u32
+        ensures { result ≡ exponent_of largest (virt_of self.virt) self.phys self.left }
+    {
+        for log in (1..=Block::LOG_MAX).rev() {
+            if self.can_stand(largest, log) {
+                return log;
+            }
         }
-        p = Power {
-            log: p.log - 1,
-            size: p.size / 2,
+        0
+    }
+
+    // What is left behind a block of 2^log bytes.
+    fn after(self, log: u32) -> Cutter
+        requires { (log < 64) × (2 ^ log ≤ self.left) }
+        ensures { result ≡ after_of self (2 ^ log) }
+    {
+        let size = 1u64 << log;
+        Cutter {
+            virt: self.virt.map(|at| at.wrapping_add(size)),
+            phys: self.phys.wrapping_add(size),
+            left: self.left - size,
+        }
+    }
+
+    // Cuts the next block, of exponent largest at most: the block and what is left behind it, or nothing at the end.
+    pub fn cut(self, largest: u32) -> Option<(Block, Cutter)>
+        ensures { piece result ≡ cut_of largest self }
+    {
+        if self.left == 0 {
+            return None;
+        }
+        let log = self.next_log(largest);
+        let block = Block {
+            virt: self.virt.unwrap_or(0),
+            phys: self.phys,
+            log,
         };
-    }
-    p
-}
-
-// The card address that many bytes on, modulo 2^64.
-fn onward(v: Virt, bytes: u64) -> Virt
-    ensures { result ≡ wrapped v bytes }
-{
-    match v {
-        Virt::At(at) => Virt::At(std::num::wrapping_add_u64(at, bytes)),
-        Virt::Absent => Virt::Absent,
+        Some((block, self.after(log)))
     }
 }
 
-// What is left behind a block of that many bytes.
-fn after(c: Cutter, size: u64) -> Cutter
-    requires { size ≤ c.left }
-    ensures { result ≡ after_of c size }
-{
-    let v = c.virt;
-    Cutter {
-        virt: onward(v, size),
-        phys: std::num::wrapping_add_u64(c.phys, size),
-        left: c.left - size,
-    }
-}
+impl Block {
+    // The exponent of a page, and the largest of a block.
+    pub const LOG_PAGE: u32 = 12;
 
-// The next block of a range that has bytes left.
-fn take_block(largest: u32, c: Cutter) -> Taken
-    requires { 0 < c.left }
-    ensures { result ≡ taken_of largest c }
-{
-    let v = c.virt;
-    let virt = virt_or_zero(v);
-    let p = largest_power(largest, virt, c.phys, c.left);
-    Taken {
-        block: Block {
-            virt,
-            phys: c.phys,
-            log: p.log,
-        },
-        rest: after(c, p.size),
-    }
-}
+    pub const LOG_MAX: u32 = 63;
 
-// Cuts the next block, of exponent largest at most.
-pub fn cut(largest: u32, c: Cutter) -> Piece
-    ensures { piece result ≡ cut_of largest c }
-{
-    if c.left == 0 {
-        return Piece::End;
+    // The second half of a block's entry: its host address, with its exponent less 12 in the low bits. An exponent below 12 counts as 12.
+    fn word(self) -> u64
+        requires { self.phys + (self.log - 12) < 2 ^ 64 }
+        ensures { result ≡ word_of self }
+    {
+        self.phys + self.log.saturating_sub(Block::LOG_PAGE) as u64
     }
-    let taken = take_block(largest, c);
-    let block = taken.block;
-    let rest = taken.rest;
-    Piece::Next(block, rest)
-}
 
-// The second half of a block's entry: its host address, with its exponent less 12 in the low bits. An exponent below 12 counts as 12.
-fn word(b: Block) -> u64
-    requires { b.phys + (b.log - 12) < 2 ^ 64 }
-    ensures { result ≡ word_of b }
-{
-    if b.log < Block::LOG_PAGE {
-        return b.phys;
+    // Writes the block's entry at place n of the list.
+    fn put_entry(self, inbox: &mut [u8], n: usize)
+        requires { (n * 16 + 16 ≤ length inbox.old) × (self.phys + (self.log - 12) < 2 ^ 64) }
+        ensures { inbox.new ≡ entry_at inbox.old n self }
+    {
+        let at = n * Listed::ENTRY;
+        fields::set_be64(inbox, at, self.virt);
+        fields::set_be64(inbox, at + 8, self.word());
     }
-    b.phys + (b.log - Block::LOG_PAGE) as u64
-}
-
-// Writes a block's entry at place n of the list.
-fn put_entry(inbox: &mut [u8], n: usize, b: Block)
-    requires { (n * 16 + 16 ≤ length inbox.old) × (b.phys + (b.log - 12) < 2 ^ 64) }
-    ensures { inbox.new ≡ entry_at inbox.old n b }
-{
-    let at = n * PageList::ENTRY;
-    fields::set_be64(inbox, at, b.virt);
-    fields::set_be64(inbox, at + 8, word(b));
 }
 
 // Writes the entries of the next blocks, capacity of them at most.
@@ -312,47 +184,28 @@ fn list_blocks(inbox: &mut [u8], largest: u32, c: Cutter, capacity: usize) -> Li
     ensures value { result ≡ listed_of largest capacity c }
     ensures inbox_after { inbox.new ≡ list_at inbox.old 0 (first_blocks largest capacity c) }
 {
-    let mut s = c;
-    let mut n: usize = 0;
-    while n < capacity {
-        if s.left == 0 {
-            return Listed {
-                entries: n,
-                rest: s,
-            };
-        }
-        let taken = take_block(largest, s);
-        let block = taken.block;
-        put_entry(inbox, n, block);
-        let rest = taken.rest;
-        s = rest;
-        n = n + 1;
+    let mut rest = c;
+    for n in 0..capacity {
+        let Some((block, behind)) = rest.cut(largest) else {
+            return Listed { entries: n, rest };
+        };
+        block.put_entry(inbox, n);
+        rest = behind;
     }
     Listed {
-        entries: n,
-        rest: s,
+        entries: capacity,
+        rest,
     }
-}
-
-// How many entries a mailbox takes: as many as it is to, and 256 at most.
-fn room(capacity: usize) -> usize
-    ensures { result ≡ min capacity 256 }
-{
-    if PageList::CAPACITY < capacity {
-        return PageList::CAPACITY;
-    }
-    capacity
 }
 
 // Fills a mailbox with the page list of the next blocks, capacity of them at most; the rest of it is 0.
-pub fn fill(inbox: &mut [u8], largest: u32, c: Cutter, capacity: usize) -> PageList
+pub fn fill(inbox: &mut [u8], largest: u32, c: Cutter, capacity: usize) -> Result<Listed, Short>
     ensures result_value { page_list result ≡ fill_at largest capacity c inbox.old }
     ensures inbox_after { inbox.new ≡ filled_at largest capacity c inbox.old }
 {
-    if inbox.len() != PageList::BYTES {
-        return PageList::Short;
+    if inbox.len() != Listed::BYTES {
+        return Err(Short);
     }
     fields::zero(inbox);
-    let n = room(capacity);
-    PageList::Filled(list_blocks(inbox, largest, c, n))
+    Ok(list_blocks(inbox, largest, c, capacity.min(Listed::CAPACITY)))
 }
