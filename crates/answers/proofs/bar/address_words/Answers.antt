@@ -1,4 +1,3 @@
-use borrow.Author.Rules.{rules}
 use Rattle.answers.proofs.bar.address_words.Goals as goal
 
 pub returns-in-At : goal.returns-in-At

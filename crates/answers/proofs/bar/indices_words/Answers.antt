@@ -1,4 +1,3 @@
-use borrow.Author.Rules.{rules}
 use Rattle.answers.proofs.bar.indices_words.Goals as goal
 
 pub returns-in-Both : goal.returns-in-Both

@@ -1,4 +1,3 @@
-use borrow.Author.Rules.{rules}
 use Rattle.answers.proofs.bar.list_words.Goals as goal
 
 pub returns-in-Range : goal.returns-in-Range
