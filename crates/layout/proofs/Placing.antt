@@ -1,22 +1,23 @@
 -- The loops that make the tables and give them their bases, on lists.
-use Prim.Native.Nat.{ℕ, suc, ◌+◌, ◌-◌, ◌*◌, ◌^◌, ◌≤◌, ◌<◌}
-use mathlib.Core.Bool.{Bool, true, false}
+use Prim.Native.Nat.{ℕ, suc, ◌+◌, ◌*◌, ◌^◌, ◌≤◌, ◌<◌}
+use mathlib.Core.Bool.{Bool, true, false, not, cond}
 use mathlib.Core.Path.{◌≡◌, refl, ap, sym, ◌∙◌}
 use mathlib.Core.List.{List, [], ◌∷◌, ◌++◌, append_assoc}
-use native.Mathlib.Nat.{add-zero, add_assoc}
+use native.Mathlib.Nat.{add-zero, zero-add, add_assoc, not-le_of_lt}
 use native.Mathlib.Numerals.{add-one}
 use native.Mathlib.Omega.{arith}
-use borrow.Author.Tests.{eq-eqb, ne_eqb}
-use lib.Dec.{eqb}
+use borrow.Author.Tests.{ltb-true, ltb-false}
+use lib.Dec.{eqb, ltb}
 use lib.ListN.{length, get_or, set, take, drop}
 use lib.Seq.{get_or-drop, take-suc-set, drop-set-lt, drop-cons}
+use Rattle.std.specs.Prelude.{Option, Some, None, SomeIff, position, find}
+use Rattle.std.specs.Option.{unwrap_or}
+use Rattle.std.specs.List.{position_or_len}
 use Rattle.fields.specs.Outcome.{pick}
 use Rattle.layout.specs.declared.Table.{Table}
-use Rattle.layout.specs.declared.Sorted.{Sorted}
-use Rattle.layout.specs.declared.Placed.{Placed}
 use Rattle.layout.specs.declared.Range.{Range}
 use Rattle.layout.specs.Layout.{no_table, table_of, tables_from, sort_into, comparisons_of, based, place_from, total_of, rows_of, is_pow2, first_bad, table_in, ranges_of, lay_out}
-use Rattle.layout.specs.Inner.{All, Small, Modest, sorted, placed}
+use Rattle.layout.specs.Inner.{All, Small, Modest}
 
 -- a turn of the loop of `tables`
 pub one_table : (counts entries : List ℕ) (i : ℕ) → i < length counts → i < length entries
@@ -31,14 +32,27 @@ made out counts entries i l m n =
     let x = table_of i (get_or counts i 0) (get_or entries i 0) in
     rw (add-one, take-suc-set out i x l, one_table counts entries i m n) (append_assoc (take i out) (x ∷ []) (tables_from (suc i) (drop (suc i) counts) (drop (suc i) entries)))
 
--- a turn of the loop of `first_bad`
-pub bad_on : (entries : List ℕ) (i : ℕ) → i < length entries → is_pow2 (get_or entries i 0) ≡ true → first_bad (i + 1) (drop (i + 1) entries) ≡ first_bad i (drop i entries)
-unfolding first_bad
-bad_on entries i l e = rw (add-one, drop-cons entries i 0 l, e)
+-- the lowest bad index is the first place of an entry that is no power of two
+abbrev pub bad : ℕ → Bool
+bad e = not (is_pow2 e)
 
-pub bad_here : (entries : List ℕ) (i : ℕ) → i < length entries → is_pow2 (get_or entries i 0) ≡ false → first_bad i (drop i entries) ≡ i
+bad_by : (b : Bool) (i m r : ℕ) → r ≡ suc i + m → pick b r i ≡ i + cond (not (not b)) (1 + m) 0
+bad_by true i m r e = omega (arith, e)
+bad_by false i m r e = sym (add-zero i)
+
+bad_from : (i : ℕ) (es : List ℕ) → first_bad i es ≡ i + position_or_len bad es
 unfolding first_bad
-bad_here entries i l e = rw (drop-cons entries i 0 l, e)
+bad_from i [] = sym (add-zero i)
+bad_from i (e ∷ es) = bad_by (is_pow2 e) i (position_or_len bad es) (first_bad (suc i) es) (bad_from (suc i) es)
+
+bad_if : (b : Bool) (m n : ℕ) → ltb m n ≡ b → SomeIff (cond b (Some m) None) (m < n) m
+bad_if true m n e = (ltb-true m n e, refl)
+bad_if false m n e = λ h. not-le_of_lt h (ltb-false m n e)
+
+pub bad_is : (es : List ℕ) (r : Option ℕ) → r ≡ position bad es → SomeIff r (first_bad 0 es < length es) (first_bad 0 es)
+bad_is es r e =
+    let f : first_bad 0 es ≡ position_or_len bad es = bad_from 0 es ∙ zero-add (position_or_len bad es) in
+    rw (e, f) (bad_if (ltb (position_or_len bad es) (length es)) (position_or_len bad es) (length es) refl)
 
 -- a turn of the loop of `place`
 pub places : (out : List Table) (i at : ℕ) → i < length out
@@ -68,13 +82,13 @@ unfolding total_of place_from
 total_placed at [] = refl
 total_placed at (x ∷ xs) = ap (λ (n : ℕ). x.bytes + n) (total_placed (at + x.bytes) xs)
 
--- the three steps to the tables with their bases, one after the other
-pub placed_rows : (counts entries : List ℕ) {made : List Table} {s : Sorted} {p : Placed} → made ≡ tables_from 0 counts entries → s ≡ sorted made → p ≡ placed s.rows s.comparisons
-    → (p.rows ≡ rows_of counts entries) × (p.total ≡ total_of (rows_of counts entries)) × (p.comparisons ≡ comparisons_of (tables_from 0 counts entries))
-placed_rows counts entries a b c =
-    let t = tables_from 0 counts entries in
-    let e = c ∙ ap (λ (x : Sorted). placed x.rows x.comparisons) (b ∙ ap sorted a) in
-    (ap (λ (x : Placed). x.rows) e, ap (λ (x : Placed). x.total) e ∙ sym (total_placed 0 (sort_into [] t)), ap (λ (x : Placed). x.comparisons) e)
+-- the three steps to the tables with their bases, one after the other, and their bytes
+module _ (counts entries : List ℕ) {made ordered placed : List Table} (a : made ≡ tables_from 0 counts entries) (b : ordered ≡ sort_into [] made) (c : placed ≡ place_from 0 ordered) where
+  pub placed_rows : placed ≡ rows_of counts entries
+  placed_rows = c ∙ ap (place_from 0) (b ∙ ap (sort_into []) a)
+
+  pub placed_bytes : {t : ℕ} → t ≡ total_of ordered → t ≡ total_of (rows_of counts entries)
+  placed_bytes e = e ∙ ap total_of (b ∙ ap (sort_into []) a) ∙ sym (total_placed 0 (sort_into [] (tables_from 0 counts entries)))
 
 -- the bases of small tables, placed from `at` on
 pub modest_from : (at n : ℕ) (xs : List Table) → length xs ≡ n → at + n * 2 ^ 48 ≤ 2 ^ 52 → All Small xs → All Modest (place_from at xs)
@@ -85,14 +99,15 @@ modest_from at n (x ∷ xs) e h a =
     let h' : at + x.bytes + length xs * 2 ^ 48 ≤ 2 ^ 52 = omega (arith, a.0.0) in
     ((omega (arith, a.0.0), a.0), modest_from (at + x.bytes) (length xs) xs refl h' a.1)
 
--- a turn of the loop of `find`
-pub find_here : (rows : List Table) (i index : ℕ) → i < length rows → (get_or rows i no_table).index ≡ index → table_in index (drop i rows) ≡ get_or rows i no_table
-unfolding table_in
-find_here rows i index l e = rw (drop-cons rows i no_table l, eq-eqb _ _ e)
+-- the first table of an index
+first_by : (b : Bool) (x y : Table) (o : Option Table) → unwrap_or o no_table ≡ y → unwrap_or (cond b (Some x) o) no_table ≡ pick b x y
+first_by true x y o e = refl
+first_by false x y o e = e
 
-pub find_on : (rows : List Table) (i index : ℕ) → i < length rows → ((get_or rows i no_table).index ≡ index → ⊥) → table_in index (drop (i + 1) rows) ≡ table_in index (drop i rows)
+pub first_is : (index : ℕ) (rows : List Table) → unwrap_or (find (λ t. eqb t.index index) rows) no_table ≡ table_in index rows
 unfolding table_in
-find_on rows i index l e = rw (add-one, drop-cons rows i no_table l, ne_eqb _ _ e)
+first_is index [] = refl
+first_is index (x ∷ xs) = first_by (eqb x.index index) x (table_in index xs) (find (λ t. eqb t.index index) xs) (first_is index xs)
 
 found_by : (P : Table → Type 0) (b : Bool) (x y : Table) → P x → P y → P (pick b x y)
 found_by P true x y p q = p

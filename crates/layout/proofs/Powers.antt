@@ -1,14 +1,17 @@
 -- Raising to a power of two.
-use Prim.Native.Nat.{ℕ, zero, suc, zero-le, ◌+◌, ◌-◌, ◌*◌, ◌^◌, ◌≤◌, ◌<◌}
+use Prim.Native.Nat.{ℕ, zero, suc, zero-le, ◌+◌, ◌-◌, ◌*◌, ◌/◌, ◌^◌, ◌≤◌, ◌<◌, max}
 use mathlib.Core.Bool.{Bool, true, false}
 use mathlib.Core.Path.{◌≡◌, refl, sym, subst, ◌∙◌}
-use native.Mathlib.Nat.{pow-suc, add-zero, add-suc, suc-add, not-le_of_lt, le_trans, le_of_eq, le_antisymm}
+use native.Mathlib.Nat.{pow-suc, add-zero, add-suc, suc-add, not-le_of_lt, lt_of_not-le, lt_of_le_of_lt, le_trans, le_of_eq, le_antisymm, max-le}
 use native.Mathlib.Numerals.{sub-one}
 use native.Mathlib.Omega.{arith}
 use borrow.Author.Tests.{leb-true, leb-false, le-leb, lt-leb, eqb-true, eq-eqb}
 use lib.Arith.{lt_of_le-ne}
 use lib.Dec.{leb}
 use lib.Pow.{pow_mono}
+use Rattle.std.specs.Prelude.{Option, Some, None, IfSome, MatchOption}
+use Rattle.std.specs.Option.{unwrap_or}
+use Rattle.std.specs.Int.{IsNextPowerOfTwo}
 use Rattle.fields.specs.Outcome.{pick}
 use Rattle.layout.specs.Layout.{first_pow, pow2_of, is_pow2, Pow}
 
@@ -51,12 +54,45 @@ found (suc n) k x h =
     found_by (suc n) k x (leb x (2 ^ k)) refl
     (λ l. rw (← (pow-suc 2 k)) (found n (suc k) x (subst (λ (m : ℕ). x ≤ 2 ^ m) (add-suc k n ∙ sym (suc-add k n)) h)))
 
+found_none : (n k x : ℕ) → 2 ^ (k + n) < x → first_pow (suc n) (2 ^ k) x ≡ 0
+unfolding first_pow
+found_none zero k x h = first_none (2 ^ k) x (rw add-zero at h)
+found_none (suc n) k x h =
+    let l : k ≤ k + suc n = omega arith in
+    rw (lt-leb x (2 ^ k) (lt_of_le_of_lt (pow_mono l) h), ← (pow-suc 2 k)) (found_none n (suc k) x (subst (λ (m : ℕ). 2 ^ m < x) (add-suc k n ∙ sym (suc-add k n)) h))
+
 -- Raising: the least power of two that is at least x.
 pub raised : (x : ℕ) → x ≤ 2 ^ 63 → Found 0 x (pow2_of x)
 raised x h = found 63 0 x h
 
 pub raised_le : (x j : ℕ) → j ≤ 63 → x ≤ 2 ^ j → pow2_of x ≤ 2 ^ j
 raised_le x j l h = (raised x (le_trans h (pow_mono l))).least j zero-le h
+
+-- nothing of 64 bits is at least x
+pub raised_none : (x : ℕ) → 2 ^ 63 < x → pow2_of x ≡ 0
+raised_none x h = found_none 63 0 x h
+
+-- half of the least power of two is less than x, so that it is no more than another
+half_below : (x j k : ℕ) → x ≤ 2 ^ j → 2 ^ k / 2 < max 1 x → k ≤ j
+half_below x j zero h l = zero-le
+half_below x j (suc k) h l =
+    let no : j ≤ k → ⊥ = λ g. let m : max 1 x ≤ 2 ^ k = max-le (pow_mono {i = 0} {j = k} zero-le) (le_trans h (pow_mono g)) in omega (arith, pow-suc 2 k, m, l) in
+    let less : k < j = lt_of_not-le no in
+    omega arith
+
+-- what std raises to is that
+pub next_is : (x : ℕ) (o : Option ℕ) → IfSome o (λ p. p < 2 ^ 64) → MatchOption o (2 ^ 63 < x) (IsNextPowerOfTwo x) → unwrap_or o 0 ≡ pow2_of x
+next_is x None f h = sym (raised_none x h)
+next_is x (Some p) f h =
+    let k = h.0.0 in
+    let e : p ≡ 2 ^ k = h.0.1 in
+    let small : k < 64 = lt_of_not-le (λ (g : 64 ≤ k). let m : 2 ^ 64 ≤ 2 ^ k = pow_mono g in omega (arith, f, e, m)) in
+    let above : x ≤ 2 ^ k = omega (arith, h.1, e) in
+    let r = raised x (le_trans above (pow_mono {i = k} {j = 63} (omega arith))) in
+    let j = r.power.0 in
+    let q : pow2_of x ≡ 2 ^ j = r.power.1 in
+    let later : k ≤ j = half_below x j k (omega (arith, r.above, q)) (rw e at h.2) in
+    le_antisymm (omega (arith, pow_mono later, e, q)) (omega (arith, r.least k zero-le above, e))
 
 -- the test for a power of two is one
 pub is_pow : (x : ℕ) → x ≤ 2 ^ 63 → is_pow2 x ≡ true → Pow x

@@ -2,9 +2,7 @@
 use Rattle.std.specs.Prelude.{ℕ, ◌<◌, ◌≤◌, ◌^◌, List, [], ◌∷◌}
 use Rattle.layout.specs.declared.Table.{Table}
 use Rattle.layout.specs.declared.Found.{Found}
-use Rattle.layout.specs.declared.Sorted.{Sorted}
-use Rattle.layout.specs.declared.Placed.{Placed}
-use Rattle.layout.specs.Layout.{spot_of, sort_into, compared_at, comparisons_of, place_from, total_of}
+use Rattle.layout.specs.Layout.{spot_of, compared_at}
 
 -- each table has this property
 abbrev pub All : (Table → Type 0) → List Table → Type 0
@@ -22,11 +20,3 @@ Modest t = (t.base < 2 ^ 52) × Small t
 -- the place of a table of b bytes among the first n of those placed, and its comparisons
 abbrev pub found : List Table → (b n : ℕ) → Found
 found t b n = record { at = spot_of t b n; comparisons = compared_at n (spot_of t b n) }
-
--- the tables in order, and the comparisons of all
-abbrev pub sorted : List Table → Sorted
-sorted t = record { rows = sort_into [] t; comparisons = comparisons_of t }
-
--- tables in order, each with its base, their bytes, and the comparisons that put them there
-abbrev pub placed : List Table → (comparisons : ℕ) → Placed
-placed t m = record { rows = place_from 0 t; total = total_of t; comparisons = m }

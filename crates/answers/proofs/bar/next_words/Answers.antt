@@ -1,4 +1,3 @@
-use borrow.Author.Rules.{rules}
 use Rattle.answers.proofs.bar.next_words.Goals as goal
 
 pub returns-in-Ask : goal.returns-in-Ask

@@ -1,5 +1,4 @@
 use mathlib.Core.Path.{ap, sym, ◌∙◌}
-use borrow.Author.Rules.{rules}
 use Rattle.fields.specs.Outcome.{value_or}
 use Rattle.fields.specs.Fields.{read64}
 use Rattle.answers.proofs.bar.word.Goals as goal

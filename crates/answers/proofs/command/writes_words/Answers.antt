@@ -1,4 +1,3 @@
-use borrow.Author.Rules.{rules}
 use Rattle.answers.proofs.command.writes_words.Goals as goal
 
 pub returns : goal.returns

@@ -1,4 +1,3 @@
-use borrow.Author.Rules.{rules}
 use Rattle.answers.proofs.field.words64.Goals as goal
 
 pub returns-in-Value : goal.returns-in-Value

@@ -1,4 +1,3 @@
-use borrow.Author.Rules.{rules}
 use Rattle.answers.proofs.memory.cutter_from.Goals as goal
 
 pub returns : goal.returns

@@ -1,4 +1,3 @@
-use borrow.Author.Rules.{rules}
 use Rattle.answers.proofs.memory.listed_words.Goals as goal
 
 pub returns-in-Filled : goal.returns-in-Filled

@@ -1,4 +1,3 @@
-use borrow.Author.Rules.{rules}
 use Rattle.answers.proofs.memory.pages_words.Goals as goal
 
 pub returns-in-Count : goal.returns-in-Count

@@ -1,4 +1,3 @@
-use borrow.Author.Rules.{rules}
 use Rattle.answers.proofs.memory.piece_words.Goals as goal
 
 pub returns-in-Next : goal.returns-in-Next

@@ -1,4 +1,3 @@
-use borrow.Author.Rules.{rules}
 use Rattle.answers.proofs.memory.started_words.Goals as goal
 
 pub returns-in-Ready : goal.returns-in-Ready

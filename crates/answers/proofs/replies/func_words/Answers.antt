@@ -1,4 +1,3 @@
-use borrow.Author.Rules.{rules}
 use Rattle.answers.proofs.replies.func_words.Goals as goal
 
 pub returns-in-Good : goal.returns-in-Good

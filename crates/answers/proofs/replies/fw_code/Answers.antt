@@ -1,4 +1,3 @@
-use borrow.Author.Rules.{rules}
 use Rattle.answers.proofs.replies.fw_code.Goals as goal
 
 pub returns-in-Good : goal.returns-in-Good
