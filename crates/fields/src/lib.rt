@@ -15,6 +15,9 @@ pub enum Order {
     Little,
 }
 
+#[derive(Clone, Copy)]
+pub struct Short;
+
 // What reading a field gives: its value, or 21 where it passes the end.
 #[derive(Clone, Copy)]
 pub enum Read8 {
