@@ -2,14 +2,13 @@
 -- Public document: ConnectX-3 Programmer's Reference Manual, QUERY_DEV_CAP. It was not at hand: the
 -- offsets of the ten entry sizes, of input L and of the tests are document 01's, the others the
 -- Rust's.
-use Rattle.std.specs.Prelude.{ℕ, ◌+◌, ◌*◌, ◌/◌, ◌%◌, ◌^◌, ◌≤◌, ◌<◌, max, Bool, false, ◌||◌, not, ◌≡◌, List, [], ◌∷◌, length, get_or, set, replicate, ltb, eqb, Option, Some, None}
+use Rattle.std.specs.Prelude.{ℕ, ◌+◌, ◌*◌, ◌/◌, ◌%◌, ◌^◌, ◌≤◌, ◌<◌, max, Bool, false, ◌||◌, not, ◌≡◌, List, [], ◌∷◌, length, get_or, set, replicate, ltb, eqb, Option, Some, None, Result, Ok, Err}
 use Rattle.fields.specs.Fields.{be}
 use Rattle.fields.specs.Outcome.{Outcome, value, refused, pick}
 use Rattle.reply.specs.declared.Place.{Place}
 use Rattle.reply.specs.declared.DevCap.{DevCap}
-use Rattle.reply.specs.declared.CapCheck.{CapCheck}
-use Rattle.reply.specs.declared.CapCheck.TheVariants.{Good, Short, MinPage, Ports, Uar, UarArea}
-use Rattle.reply.specs.declared.Capability.{Capability}
+use Rattle.reply.specs.declared.CapRefusal.{CapRefusal}
+use Rattle.reply.specs.declared.CapRefusal.TheVariants.{Short, MinPage, Ports, Uar, UarArea}
 
 abbrev pub byte : List ℕ → ℕ → ℕ
 byte s off = be s off 1
@@ -90,7 +89,7 @@ dev_cap_of s =
       max_icm = be s 0xa0 8;
     }
 
--- no capabilities: what stands beside a refusal
+-- no capabilities: what stands in for those of a reply that is refused
 abbrev pub no_caps : DevCap
 no_caps =
     record {
@@ -138,20 +137,16 @@ capability_of s bar =
     (value (dev_cap_of s))))))
 
 -- what each answer stands for
-abbrev pub refused_by : CapCheck → DevCap → Outcome DevCap
-refused_by Good c = value c
-refused_by Short c = refused 21 []
-refused_by (MinPage e) c = refused 12 (e ∷ [])
-refused_by (Ports n) c = refused 13 (n ∷ [])
-refused_by (Uar f) c = refused 14 (f ∷ [])
-refused_by (UarArea a) c = refused 15 (a ∷ [])
+abbrev pub refused_by : CapRefusal → Outcome DevCap
+refused_by Short = refused 21 []
+refused_by (MinPage e) = refused 12 (e ∷ [])
+refused_by (Ports n) = refused 13 (n ∷ [])
+refused_by (Uar f) = refused 14 (f ∷ [])
+refused_by (UarArea a) = refused 15 (a ∷ [])
 
-abbrev pub capability : Capability → Outcome DevCap
-capability r = refused_by r.check r.cap
-
--- a refusal, with no capabilities beside it
-abbrev pub refused_caps : CapCheck → Capability
-refused_caps k = record { check = k; cap = no_caps }
+abbrev pub capability : Result DevCap CapRefusal → Outcome DevCap
+capability (Ok c) = value c
+capability (Err k) = refused_by k
 
 -- how large the fields of a reply can be (law `decoded_bounds`)
 pub record Bounds (c : DevCap) : Type 0 where

@@ -2,18 +2,15 @@
 -- short for its last field is 21.
 -- Public document: ConnectX-3 Programmer's Reference Manual, these three commands. It was not at
 -- hand: the offsets are the Rust's.
-use Rattle.std.specs.Prelude.{ℕ, ◌+◌, ◌*◌, ◌/◌, ◌%◌, Bool, false, ◌||◌, not, List, [], ◌∷◌, length, replicate, ltb, eqb}
+use Rattle.std.specs.Prelude.{ℕ, ◌+◌, ◌*◌, ◌/◌, ◌%◌, Bool, false, ◌||◌, not, List, [], ◌∷◌, length, replicate, ltb, eqb, Result, Ok, Err}
 use Rattle.fields.specs.Fields.{be}
 use Rattle.fields.specs.Outcome.{Outcome, value, refused, pick}
+use Rattle.fields.specs.declared.Short.{Short}
 use Rattle.reply.specs.declared.FwInfo.{FwInfo}
-use Rattle.reply.specs.declared.FwCheck.{FwCheck}
-use Rattle.reply.specs.declared.FwCheck.TheVariants as fw
-use Rattle.reply.specs.declared.FwReply.{FwReply}
+use Rattle.reply.specs.declared.FwRefusal.{FwRefusal}
+use Rattle.reply.specs.declared.FwRefusal.TheVariants as fw
 use Rattle.reply.specs.declared.PortInfo.{PortInfo}
-use Rattle.reply.specs.declared.PortReply.{PortReply}
 use Rattle.reply.specs.declared.FuncInfo.{FuncInfo}
-use Rattle.reply.specs.declared.FuncReply.{FuncReply}
-use Rattle.reply.specs.declared.FuncReply.TheVariants as func
 use Rattle.reply.specs.Capability.{byte, bit}
 
 -- the catastrophic buffer's BAR: the two high bits of byte 0x3c, doubled, are a BAR register; register 2 is the UAR BAR, whose index was chosen
@@ -49,17 +46,19 @@ query_fw_of s uarBar =
     (pick (not (two_or_three (be s 0x0a 2))) (refused 11 (be s 0x0a 2 ∷ []))
     (value (fw_of s uarBar)))
 
--- what stands beside the answer: the fields, also of a revision that is refused (its catastrophic buffer is known); nothing of a short reply
+-- what is known of the firmware: the fields, also of a revision that is refused (its catastrophic buffer is known); nothing of a short reply
 abbrev pub fw_held : List ℕ → (uarBar : ℕ) → FwInfo
 fw_held s uarBar = pick (ltb (length s) 0x3d) no_fw (fw_of s uarBar)
 
-abbrev pub fw_by : FwCheck → FwInfo → Outcome FwInfo
-fw_by fw.Good i = value i
-fw_by fw.Short i = refused 21 []
-fw_by (fw.Revision r) i = refused 11 (r ∷ [])
+abbrev pub query_fw : Result FwInfo FwRefusal → Outcome FwInfo
+query_fw (Ok i) = value i
+query_fw (Err fw.Short) = refused 21 []
+query_fw (Err (fw.Revision i)) = refused 11 (i.rev ∷ [])
 
-abbrev pub query_fw : FwReply → Outcome FwInfo
-query_fw r = fw_by r.check r.info
+abbrev pub fw_in : Result FwInfo FwRefusal → FwInfo
+fw_in (Ok i) = i
+fw_in (Err fw.Short) = no_fw
+fw_in (Err (fw.Revision i)) = i
 
 -- bits 0 to 3, 5 and 6 of byte 5
 abbrev pub speed_of : ℕ → ℕ
@@ -105,8 +104,9 @@ no_port =
 abbrev pub query_port_of : List ℕ → (num : ℕ) → Outcome PortInfo
 query_port_of s num = pick (ltb (length s) 0x28) (refused 21 []) (value (port_of s num))
 
-abbrev pub query_port : PortReply → Outcome PortInfo
-query_port r = pick r.short (refused 21 []) (value r.info)
+abbrev pub query_port : Result PortInfo Short → Outcome PortInfo
+query_port (Ok i) = value i
+query_port (Err e) = refused 21 []
 
 -- what QUERY_FUNC replaces
 abbrev pub func_of : List ℕ → FuncInfo
@@ -115,6 +115,6 @@ func_of s = record { rsvd_eqs = be s 0x04 2; max_eqs = be s 0x06 2; rsvd_uars = 
 abbrev pub query_func_of : List ℕ → Outcome FuncInfo
 query_func_of s = pick (ltb (length s) 0x0c) (refused 21 []) (value (func_of s))
 
-abbrev pub query_func : FuncReply → Outcome FuncInfo
-query_func (func.Good i) = value i
-query_func func.Short = refused 21 []
+abbrev pub query_func : Result FuncInfo Short → Outcome FuncInfo
+query_func (Ok i) = value i
+query_func (Err e) = refused 21 []

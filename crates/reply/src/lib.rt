@@ -2,12 +2,14 @@
 #![tactic(auto)]
 
 ghost use Rattle.std.specs.Prelude.{◌&&◌, ◌≡◌, ◌+◌, ◌*◌, ◌/◌, ◌%◌, ◌^◌, ◌<◌, ◌≤◌, max, length, eqb};
+ghost use Rattle.std.specs.Result.{result_unwrap_or};
 ghost use Rattle.fields.specs.Fields.{be};
 ghost use Rattle.fields.specs.Outcome.{value_or, number_of, pick};
-ghost use Rattle.reply.specs.Replies.{catas_bar_value, fw_of, no_fw, two_or_three, query_fw, query_fw_of, fw_held};
+ghost use Rattle.reply.specs.Replies.{catas_bar_value, fw_of, no_fw, two_or_three, query_fw, query_fw_of, fw_in, fw_held};
 ghost use Rattle.reply.specs.Replies.{mac_of, port_of, no_port, query_port, query_port_of, query_func, query_func_of};
-ghost use Rattle.reply.specs.Capability.{capability, capability_of, dev_cap_of, entries_of, no_caps, uar_area, above_size, one_or_two, refused_by, refused_caps, bit};
+ghost use Rattle.reply.specs.Capability.{capability, capability_of, dev_cap_of, entries_of, no_caps, uar_area, above_size, one_or_two, refused_by, bit};
 
+use fields::Short;
 use reader::Reader;
 
 // The kinds of ICM table, by index, and what is fixed for each.
@@ -59,10 +61,6 @@ impl Kind {
 pub struct Place {
     pub table: usize,
     pub offset: usize,
-}
-
-impl Place {
-    pub const COUNT: usize = 10;
 }
 
 // The ten entry sizes that a capability reply gives.
@@ -142,10 +140,9 @@ pub struct DevCap {
     pub max_icm: u64,
 }
 
-// What the tests on a capability reply say, in their order.
+// Why a capability reply is refused, in the order of the tests on it.
 #[derive(Clone, Copy)]
-pub enum CapCheck {
-    Good,
+pub enum CapRefusal {
     Short,
     MinPage(u8),
     Ports(u8),
@@ -153,36 +150,25 @@ pub enum CapCheck {
     UarArea(u64),
 }
 
-impl CapCheck {
-    // Document 01's number; 0 where the reply is good.
+impl CapRefusal {
+    // Document 01's number.
     pub fn number(self) -> u32
-        ensures { result ≡ number_of (refused_by self no_caps) }
+        ensures { result ≡ number_of (refused_by self) }
     {
         match self {
-            CapCheck::Good => 0,
-            CapCheck::Short => 21,
-            CapCheck::MinPage(_) => 12,
-            CapCheck::Ports(_) => 13,
-            CapCheck::Uar(_) => 14,
-            CapCheck::UarArea(_) => 15,
+            CapRefusal::Short => 21,
+            CapRefusal::MinPage(_) => 12,
+            CapRefusal::Ports(_) => 13,
+            CapRefusal::Uar(_) => 14,
+            CapRefusal::UarArea(_) => 15,
         }
     }
-}
-
-// The capabilities, where the reply is good; else all are 0.
-#[derive(Clone, Copy)]
-pub struct Capability {
-    pub check: CapCheck,
-    pub cap: DevCap,
 }
 
 fn has_bit(flags: u64, number: u8) -> bool
     ensures { result ≡ bit number flags }
 {
-    if 63 < number {
-        return false;
-    }
-    (flags >> number) % 2 == 1
+    number < 64 && (flags >> number) % 2 == 1
 }
 
 impl DevCap {
@@ -197,10 +183,7 @@ impl DevCap {
     pub fn b0(self) -> bool
         ensures { result ≡ bit 41 self.flags && bit 42 self.flags }
     {
-        if self.flag(41) {
-            return self.flag(42);
-        }
-        false
+        self.flag(41) && self.flag(42)
     }
 
     pub const BYTES: usize = 168;
@@ -296,14 +279,11 @@ fn rsvd_eqs(eqs: u16, uars: u8, sys: u16) -> u16
     requires { uars < 16 }
     ensures { result ≡ pick (eqb sys 0) (max eqs (4 * uars)) eqs }
 {
-    let least = 4 * (uars as u16);
     if sys == 0 {
-        if eqs < least {
-            return least;
-        }
-        return eqs;
+        eqs.max(4 * (uars as u16))
+    } else {
+        eqs
     }
-    eqs
 }
 
 // The entry sizes by table index.
@@ -313,12 +293,8 @@ fn entries(reply: &[u8]) -> [u16; 11]
 {
     let mut out = [0u16; 11];
     out[Kind::MCG] = Kind::MCG_ENTRY;
-    let mut k: usize = 0;
-    while k < Place::COUNT {
-        let place = ENTRIES[k];
-        let at = place.table;
-        out[at] = be16(reply, place.offset);
-        k = k + 1;
+    for place in ENTRIES {
+        out[place.table] = be16(reply, place.offset);
     }
     out
 }
@@ -376,45 +352,31 @@ fn above(bar: Option<u64>, area: u64) -> bool
     bar.is_some_and(|n| n < area)
 }
 
-impl Capability {
-    fn refused(check: CapCheck) -> Self
-        ensures { result ≡ refused_caps check }
-    {
-        Self {
-            check,
-            cap: DevCap::none(),
-        }
-    }
-}
-
 // The capability reply, with the tests on it: 21, then 12 to 15.
-pub fn dev_cap(reply: &[u8], bar: Option<u64>) -> Capability
+pub fn dev_cap(reply: &[u8], bar: Option<u64>) -> Result<DevCap, CapRefusal>
     ensures said { capability result ≡ capability_of reply.now bar }
-    ensures held { result.cap ≡ value_or no_caps (capability_of reply.now bar) }
+    ensures held { result_unwrap_or result no_caps ≡ value_or no_caps (capability_of reply.now bar) }
 {
     if reply.len() < DevCap::BYTES {
-        return Capability::refused(CapCheck::Short);
+        return Err(CapRefusal::Short);
     }
     let log_min_page = byte(reply, 0x4b);
     if DevCap::MAX_LOG_MIN_PAGE < log_min_page {
-        return Capability::refused(CapCheck::MinPage(log_min_page));
+        return Err(CapRefusal::MinPage(log_min_page));
     }
     let ports = byte(reply, 0x37) % 16;
     if !one_or_two(ports) {
-        return Capability::refused(CapCheck::Ports(ports));
+        return Err(CapRefusal::Ports(ports));
     }
     let field = byte(reply, 0x49) % 64;
     if DevCap::MAX_LOG_UAR < field {
-        return Capability::refused(CapCheck::Uar(field));
+        return Err(CapRefusal::Uar(field));
     }
     let area = uar_area(field);
     if above(bar, area) {
-        return Capability::refused(CapCheck::UarArea(area));
+        return Err(CapRefusal::UarArea(area));
     }
-    Capability {
-        check: CapCheck::Good,
-        cap: decoded(reply, area),
-    }
+    Ok(decoded(reply, area))
 }
 
 // What QUERY_FW says: the pages that the firmware asks for, its version, the revision of the command interface, and where the catastrophic error buffer is.
@@ -432,18 +394,11 @@ pub struct FwInfo {
     pub catas_bar: u8,
 }
 
+// Why a reply to QUERY_FW is refused: its fields are known also where the revision is refused.
 #[derive(Clone, Copy)]
-pub enum FwCheck {
-    Good,
+pub enum FwRefusal {
     Short,
-    Revision(u16),
-}
-
-// The fields, also where the revision is refused; all 0 where the reply is too short.
-#[derive(Clone, Copy)]
-pub struct FwReply {
-    pub check: FwCheck,
-    pub info: FwInfo,
+    Revision(FwInfo),
 }
 
 impl FwInfo {
@@ -475,9 +430,10 @@ fn catas_bar(register: u8, bar: u8) -> u8
     ensures { result ≡ catas_bar_value register bar }
 {
     if register == FwInfo::UAR_REG {
-        return bar;
+        bar
+    } else {
+        register
     }
-    register
 }
 
 fn fw_info(reply: &[u8], bar: u8) -> FwInfo
@@ -505,27 +461,18 @@ fn two_or_three(n: u16) -> bool
 }
 
 // The reply to QUERY_FW, where `bar` is the index chosen for the UAR BAR: 21, then 11.
-pub fn query_fw(reply: &[u8], bar: u8) -> FwReply
+pub fn query_fw(reply: &[u8], bar: u8) -> Result<FwInfo, FwRefusal>
     ensures said { query_fw result ≡ query_fw_of reply.now bar }
-    ensures held { result.info ≡ fw_held reply.now bar }
+    ensures held { fw_in result ≡ fw_held reply.now bar }
 {
     if reply.len() < FwInfo::BYTES {
-        return FwReply {
-            check: FwCheck::Short,
-            info: FwInfo::none(),
-        };
+        return Err(FwRefusal::Short);
     }
     let info = fw_info(reply, bar);
-    let rev = info.rev;
-    if !two_or_three(rev) {
-        return FwReply {
-            check: FwCheck::Revision(rev),
-            info,
-        };
-    }
-    FwReply {
-        check: FwCheck::Good,
-        info,
+    if two_or_three(info.rev) {
+        Ok(info)
+    } else {
+        Err(FwRefusal::Revision(info))
     }
 }
 
@@ -547,13 +494,6 @@ pub struct PortInfo {
     pub xcvr: u32,
     pub wavelength: u16,
     pub xcvr_code: u64,
-}
-
-// The port, or 21 where the reply is too short: then all is 0.
-#[derive(Clone, Copy)]
-pub struct PortReply {
-    pub short: bool,
-    pub info: PortInfo,
 }
 
 impl PortInfo {
@@ -616,20 +556,14 @@ fn port_info(reply: &[u8], num: u8) -> PortInfo
 }
 
 // The reply to QUERY_PORT for port `num`.
-pub fn query_port(reply: &[u8], num: u8) -> PortReply
+pub fn query_port(reply: &[u8], num: u8) -> Result<PortInfo, Short>
     ensures said { query_port result ≡ query_port_of reply.now num }
-    ensures held { result.info ≡ value_or no_port (query_port_of reply.now num) }
+    ensures held { result_unwrap_or result no_port ≡ value_or no_port (query_port_of reply.now num) }
 {
     if reply.len() < PortInfo::BYTES {
-        return PortReply {
-            short: true,
-            info: PortInfo::none(),
-        };
+        return Err(Short);
     }
-    PortReply {
-        short: false,
-        info: port_info(reply, num),
-    }
+    Ok(port_info(reply, num))
 }
 
 // What QUERY_FUNC says on a card with system EQs: it replaces three capability fields.
@@ -640,24 +574,18 @@ pub struct FuncInfo {
     pub rsvd_uars: u8,
 }
 
-#[derive(Clone, Copy)]
-pub enum FuncReply {
-    Good(FuncInfo),
-    Short,
-}
-
 impl FuncInfo {
     pub const BYTES: usize = 0x0c;
 }
 
 // The reply to QUERY_FUNC.
-pub fn query_func(reply: &[u8]) -> FuncReply
+pub fn query_func(reply: &[u8]) -> Result<FuncInfo, Short>
     ensures { query_func result ≡ query_func_of reply.now }
 {
     if reply.len() < FuncInfo::BYTES {
-        return FuncReply::Short;
+        return Err(Short);
     }
-    FuncReply::Good(FuncInfo {
+    Ok(FuncInfo {
         rsvd_eqs: be16(reply, 0x04),
         max_eqs: be16(reply, 0x06),
         rsvd_uars: byte(reply, 0x0b) % 16,
