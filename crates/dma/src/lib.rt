@@ -167,14 +167,14 @@ impl Block {
         self.phys + self.log.saturating_sub(Block::LOG_PAGE) as u64
     }
 
-    // Writes the block's entry at place n of the list.
+    // Writes the block's entry at place n of the list, where both its fields lie within.
     fn put_entry(self, inbox: &mut [u8], n: usize)
         requires { (n * 16 + 16 ≤ length inbox.old) × (self.phys + (self.log - 12) < 2 ^ 64) }
         ensures { inbox.new ≡ entry_at inbox.old n self }
     {
         let at = n * Listed::ENTRY;
-        fields::set_be64(inbox, at, self.virt);
-        fields::set_be64(inbox, at + 8, self.word());
+        let _ = fields::set_be64(inbox, at, self.virt);
+        let _ = fields::set_be64(inbox, at + 8, self.word());
     }
 }
 
