@@ -1,18 +1,20 @@
 -- Laws of the command register's words: the wait, and the order of bytes.
 use Prim.Native.Nat.{ℕ, zero, suc, ◌+◌, ◌-◌, ◌*◌, ◌/◌, ◌%◌, ◌^◌, ◌≤◌, ◌<◌}
-use mathlib.Core.Bool.{Bool, true, false}
+use mathlib.Core.Bool.{Bool, true, false, beq, not-not}
 use mathlib.Core.Path.{◌≡◌, refl, ap, sym, subst, ◌∙◌}
-use mathlib.Core.List.{List}
+use mathlib.Core.List.{List, [], ◌∷◌}
 use native.Mathlib.Nat.{add-zero, add-suc, mod-lt, mod-eq_of_lt, div-lt_iff_lt-mul}
-use native.Mathlib.Numerals.{add-one}
 use native.Mathlib.Omega.{arith}
-use borrow.Author.Tests.{lt-ltb, le-ltb, eq-eqb, ne_eqb}
-use lib.Dec.{ltb, lit≤, lit<}
-use lib.ListN.{length, get_or, drop}
+use borrow.Author.Tests.{lt-ltb, le-ltb, ne_eqb}
+use lib.Dec.{ltb, eqb, lit≤, lit<}
+use Rattle.std.specs.List.{list_any}
+use Rattle.std.proofs.Common.{bit_and, not, zero-mul}
+use Rattle.std.proofs.lemmas.Nat.{pow_pos}
+use Rattle.std.proofs.lemmas.Nat.Bits.{and_pow}
+use Rattle.std.proofs.lemmas.Bool.Decides.{nat_tests}
 use lib.Pow.{shr-shr, split}
-use lib.Seq.{drop-cons}
 use Rattle.fields.specs.Outcome.{pick}
-use Rattle.hcr.specs.Words.{waited_of, swap_of, is_in}
+use Rattle.hcr.specs.Words.{waited_of, swap_of, is_in, bit, same}
 
 -- the first n stalls together: 1 µs each up to 1,000, then 100 µs each
 pub waited_short : (n : ℕ) → n ≤ 1000 → waited_of n ≡ n
@@ -89,11 +91,33 @@ swap_swap x h =
     (mod-lt x {m = 256} (lit< tt)) (mod-lt (x / 2 ^ 8) {m = 256} (lit< tt)) (mod-lt (x / 2 ^ 16) {m = 256} (lit< tt)) (mod-lt (x / 2 ^ 24) {m = 256} (lit< tt))
     ∙ whole x h
 
--- a turn of the loop of `reserved`
-pub in_here : (n : ℕ) (xs : List ℕ) (i : ℕ) → i < length xs → n ≡ get_or xs i 0 → is_in n (drop i xs) ≡ true
-unfolding is_in
-in_here n xs i l e = rw (drop-cons xs i 0 l, eq-eqb n (get_or xs i 0) e)
+-- a bit is set where its mask leaves something
+mask_on : (b p : ℕ) → b < 2 → 0 < p → not (eqb (b * p) 0) ≡ eqb b 1
+mask_on b p h k = by b h
+  where
+    by : (b : ℕ) → b < 2 → not (eqb (b * p) 0) ≡ eqb b 1
+    by zero h = simp zero-mul
+    by (suc zero) h = let e : suc zero * p ≡ p = omega arith in rw (e, ne_eqb p 0 (λ z. omega arith))
+    by (suc (suc n)) h = absurd (omega arith)
 
-pub in_on : (n : ℕ) (xs : List ℕ) (i : ℕ) → i < length xs → (n ≡ get_or xs i 0 → ⊥) → is_in n (drop (i + 1) xs) ≡ is_in n (drop i xs)
+pub bit_on : (n k : ℕ) → not (eqb (bit_and n (2 ^ k)) 0) ≡ bit k n
+bit_on n k = rw (and_pow n k) (mask_on (n / 2 ^ k % 2) (2 ^ k) (omega arith) (pow_pos k))
+
+pub bit_off : (n k : ℕ) → eqb (bit_and n (2 ^ k)) 0 ≡ not (bit k n)
+bit_off n k = sym (not-not _) ∙ ap not (bit_on n k)
+
+-- two flags are equal
+pub equal_same : (a b : Bool) → beq a b ≡ same a b
+equal_same true true = refl
+equal_same true false = refl
+equal_same false true = refl
+equal_same false false = refl
+
+eqb_swap : (m n : ℕ) → eqb m n ≡ eqb n m
+eqb_swap m n = grind (arith, nat_tests)
+
+-- an opcode that stands in a row is told by `contains`
+pub any_is_in : (n : ℕ) (xs : List ℕ) → list_any (λ y. eqb y n) xs ≡ is_in n xs
 unfolding is_in
-in_on n xs i l e = rw (add-one, drop-cons xs i 0 l, ne_eqb n (get_or xs i 0) e)
+any_is_in n [] = refl
+any_is_in n (x ∷ xs) = rw (eqb_swap x n, any_is_in n xs)

@@ -1,8 +1,8 @@
 // The command register, as words: what is written to post a command, and what its status says.
 #![tactic(auto)]
 
-ghost use Rattle.std.specs.Prelude.{◌≡◌, ◌+◌, ◌*◌, ◌<◌, ◌≤◌};
-ghost use Rattle.hcr.specs.Words.{pending_in, status_in, first_toggle, go_word, swap_of, writes_of, stall_of, waited_of, is_reserved, digit, write};
+ghost use Rattle.std.specs.Prelude.{◌≡◌, ◌<◌};
+ghost use Rattle.hcr.specs.Words.{pending_in, status_in, first_toggle, go_word, swap_of, writes_of, stall_of, waited_of, is_reserved, write};
 
 // The command register's place, its bits, and the limit of a wait.
 #[derive(Clone, Copy)]
@@ -72,8 +72,6 @@ impl Op {
 
     // An opcode has twelve bits.
     pub const LAST: u16 = 0xfff;
-
-    pub const RESERVED_COUNT: usize = 11;
 }
 
 // A command as it is posted: opcode and modifier, input modifier, input and output parameter.
@@ -97,59 +95,35 @@ pub struct RegWrite {
 pub fn pending(status: u32, toggle: bool) -> bool
     ensures { result ≡ pending_in status toggle }
 {
-    if status / Hcr::GO % 2 == 1 {
-        return true;
-    }
-    if status / Hcr::T % 2 == 1 {
-        return toggle;
-    }
-    !toggle
+    status & Hcr::GO != 0 || (status & Hcr::T != 0) == toggle
 }
 
 // The status of a command that has ended: the top byte of its status dword.
 pub fn status(dword: u32) -> u8
     ensures { result ≡ status_in dword }
 {
-    (dword / 0x100_0000) as u8
+    (dword >> 24) as u8
 }
 
 // The toggle after a reset, from the status dword: the opposite of T, or 1 where GO is set.
 pub fn first_toggle(status: u32) -> bool
     ensures { result ≡ first_toggle status }
 {
-    if status / Hcr::GO % 2 == 1 {
-        return true;
-    }
-    if status / Hcr::T % 2 == 1 {
-        return false;
-    }
-    true
-}
-
-fn t_bit(toggle: bool) -> u32
-    ensures { (result ≡ digit toggle * 2097152) × (result ≤ 2097152) }
-{
-    if toggle {
-        return Hcr::T;
-    }
-    0
+    status & Hcr::GO != 0 || status & Hcr::T == 0
 }
 
 // The dword that posts a command.
 pub fn go_word(toggle: bool, modifier: u8, op: u16) -> u32
     ensures { result ≡ go_word toggle modifier op }
 {
-    Hcr::GO + t_bit(toggle) + (modifier as u32) * 4096 + (op % 4096) as u32
+    Hcr::GO + u32::from(toggle) * Hcr::T + u32::from(modifier) * 4096 + u32::from(op % 4096)
 }
 
 // A dword with its four bytes in the other order.
 pub fn swap(x: u32) -> u32
     ensures { result ≡ swap_of x }
 {
-    x % 256 * 0x100_0000
-        + x / 256 % 256 * 0x1_0000
-        + x / 0x1_0000 % 256 * 256
-        + x / 0x100_0000 % 256
+    x.swap_bytes()
 }
 
 impl RegWrite {
@@ -221,15 +195,5 @@ pub const RESERVED: [u16; 11] = [
 pub fn reserved(op: u16) -> bool
     ensures { result ≡ is_reserved op }
 {
-    if Op::LAST < op {
-        return true;
-    }
-    let mut i: usize = 0;
-    while i < Op::RESERVED_COUNT {
-        if op == RESERVED[i] {
-            return true;
-        }
-        i = i + 1;
-    }
-    false
+    Op::LAST < op || RESERVED.contains(&op)
 }

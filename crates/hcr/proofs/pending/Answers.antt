@@ -1,11 +1,15 @@
+use Rattle.std.proofs.Common.{Bool, not, ◌||◌, sym, ap, ◌∙◌}
 use borrow.Author.Tests.{eq-eqb, ne_eqb}
+use Rattle.hcr.specs.Words.{bit, same}
+use Rattle.hcr.proofs.Laws.{bit_on, equal_same}
 use Rattle.hcr.proofs.pending.Goals as goal
 
-pub returns-then-status-eq1 : goal.returns-then-status-eq1
-returns-then-status-eq1 c = rw (eq-eqb _ _ c.if-status-eq1.true)
+pub returns-then-status-ne0 : goal.returns-then-status-ne0
+returns-then-status-ne0 c = let s = c.args.status in let e = ap not (ne_eqb _ _ c.if-status-ne0.true) in
+    e ∙ sym (ap (λ (b : Bool). b || same (bit 21 s) c.args.toggle) (sym (bit_on s 23) ∙ e))
 
-pub returns-then-status-eq1-2 : goal.returns-then-status-eq1-2
-returns-then-status-eq1-2 c = rw (ne_eqb _ _ c.if-status-eq1.false, eq-eqb _ _ c.if-status-eq1-2.true)
-
-pub returns : goal.returns
-returns c = rw (ne_eqb _ _ c.if-status-eq1.false, ne_eqb _ _ c.if-status-eq1-2.false)
+pub returns-else-status-ne0 : goal.returns-else-status-ne0
+returns-else-status-ne0 c = let s = c.args.status in let e = ap not (eq-eqb _ _ c.if-status-ne0.false) in
+    equal_same _ c.args.toggle
+    ∙ ap (λ (b : Bool). same b c.args.toggle) (bit_on s 21)
+    ∙ sym (ap (λ (b : Bool). b || same (bit 21 s) c.args.toggle) (sym (bit_on s 23) ∙ e))

@@ -1,6 +1,5 @@
 use mathlib.Core.Path.{sym}
 use native.Mathlib.Omega.{arith}
-use borrow.Author.Rules.{rules}
 use Rattle.hcr.proofs.Laws.{waited_short, waited_is}
 use Rattle.hcr.proofs.waited.Goals as goal
 
