@@ -1,14 +1,14 @@
 use borrow.Author.Rules.{rules}
 use Rattle.work.proofs.Work.bar_on.Goals as goal
 
-pub returns-in-Going : goal.returns-in-Going
-returns-in-Going c = simp (
+pub returns-in-None : goal.returns-in-None
+returns-in-None c = simp (
   ← c.step-st.ensures,
-  c.in-Going.is,
+  c.in-None.is,
 )
 
-pub returns-in-Ended : goal.returns-in-Ended
-returns-in-Ended c = simp (
+pub returns-in-Some : goal.returns-in-Some
+returns-in-Some c = simp (
   ← c.step-st.ensures,
-  c.in-Ended.is,
+  c.in-Some.is,
 )
