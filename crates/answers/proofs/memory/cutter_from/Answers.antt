@@ -1,5 +1,0 @@
-use borrow.Author.Rules.{rules}
-use Rattle.answers.proofs.memory.cutter_from.Goals as goal
-
-pub returns : goal.returns
-returns c = rw c.virt_from.ensures
