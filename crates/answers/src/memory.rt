@@ -2,67 +2,59 @@
 ghost use Rattle.std.specs.Prelude.{◌≡◌};
 ghost use Rattle.fields.specs.Outcome.{number_of};
 ghost use Rattle.dma.specs.Buffers.{page_count, accepted};
-ghost use Rattle.dma.specs.Blocks.{virt_of, started, piece};
+ghost use Rattle.dma.specs.Blocks.{started, piece};
 ghost use Rattle.dma.specs.PageList.{page_list};
 ghost use Rattle.answers.specs.Words.{number_words};
-ghost use Rattle.answers.specs.Memory.{virt_from, virt_known, cutter_from, started_words, piece_words, listed_words};
+ghost use Rattle.answers.specs.Memory.{virt_from, cutter_from, cutter_words, started_words, piece_words, listed_words};
 
-use dma::{Accepted, Cutter, PageList, Pages, Piece, Started, Virt};
+use dma::{BadAddress, Block, Cutter, Listed};
+use fields::Short;
 
-pub fn pages_words(p: Pages) -> [u64; 2]
+pub fn pages_words(p: Result<u64, BadAddress>) -> [u64; 2]
     ensures { result ≡ number_words (page_count p) }
 {
     match p {
-        Pages::Count(n) => [0, n],
-        Pages::Refused => [18, 0],
+        Ok(n) => [0, n],
+        Err(_) => [18, 0],
     }
 }
 
-pub fn accepted_number(a: Accepted) -> u32
+pub fn accepted_number(a: Result<(), BadAddress>) -> u32
     ensures { result ≡ number_of (accepted a) }
 {
     match a {
-        Accepted::Good => 0,
-        Accepted::Refused => 18,
+        Ok(()) => 0,
+        Err(_) => 18,
     }
 }
 
-pub fn virt_from(has: bool, at: u64) -> Virt
+pub fn virt_from(has: bool, at: u64) -> Option<u64>
     ensures { result ≡ virt_from has at }
 {
-    if has {
-        return Virt::At(at);
-    }
-    Virt::Absent
+    has.then_some(at)
 }
 
-fn virt_known(v: Virt) -> u64
-    ensures { result ≡ virt_known v }
+// What is left of a range: whether it has a card address, that address, the host address and the bytes.
+fn cutter_words(c: Cutter) -> [u64; 4]
+    ensures { result ≡ cutter_words c }
 {
-    match v {
-        Virt::At(_) => 1,
-        Virt::Absent => 0,
-    }
+    [
+        c.virt.is_some() as u64,
+        c.virt.unwrap_or(0),
+        c.phys,
+        c.left,
+    ]
 }
 
-fn virt_in(v: Virt) -> u64
-    ensures { result ≡ virt_of v }
-{
-    match v {
-        Virt::At(at) => at,
-        Virt::Absent => 0,
-    }
-}
-
-pub fn started_words(s: Started) -> [u64; 5]
+pub fn started_words(s: Result<Cutter, BadAddress>) -> [u64; 5]
     ensures { result ≡ started_words (started s) }
 {
     match s {
-        Started::Ready(c) => {
-            let v = c.virt;
-            [0, virt_known(v), virt_in(v), c.phys, c.left]
+        Ok(c) => {
+            let w = cutter_words(c);
+            [0, w[0], w[1], w[2], w[3]]
         }
-        Started::Refused => [18, 0, 0, 0, 0],
+        Err(_) => [18, 0, 0, 0, 0],
     }
 }
 
@@ -76,43 +68,26 @@ pub fn cutter_from(has: bool, virt: u64, phys: u64, left: u64) -> Cutter
     }
 }
 
-pub fn piece_words(p: Piece) -> [u64; 8]
+pub fn piece_words(p: Option<(Block, Cutter)>) -> [u64; 8]
     ensures { result ≡ piece_words (piece p) }
 {
     match p {
-        Piece::Next(b, c) => {
-            let v = c.virt;
-            [
-                1,
-                b.virt,
-                b.phys,
-                b.log as u64,
-                virt_known(v),
-                virt_in(v),
-                c.phys,
-                c.left,
-            ]
+        Some((b, c)) => {
+            let w = cutter_words(c);
+            [1, b.virt, b.phys, b.log as u64, w[0], w[1], w[2], w[3]]
         }
-        Piece::End => [0, 0, 0, 0, 0, 0, 0, 0],
+        None => [0; 8],
     }
 }
 
-pub fn listed_words(l: PageList) -> [u64; 6]
+pub fn listed_words(l: Result<Listed, Short>) -> [u64; 6]
     ensures { result ≡ listed_words (page_list l) }
 {
     match l {
-        PageList::Filled(m) => {
-            let c = m.rest;
-            let v = c.virt;
-            [
-                0,
-                m.entries as u64,
-                virt_known(v),
-                virt_in(v),
-                c.phys,
-                c.left,
-            ]
+        Ok(m) => {
+            let w = cutter_words(m.rest);
+            [0, m.entries as u64, w[0], w[1], w[2], w[3]]
         }
-        PageList::Short => [21, 0, 0, 0, 0, 0],
+        Err(_) => [21, 0, 0, 0, 0, 0],
     }
 }

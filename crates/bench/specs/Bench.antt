@@ -1,16 +1,13 @@
 -- The bench values of document 01, and of document 02 the counts of comparisons (Req 04) and resource
 -- lists (Req 05), as one table. The theorem `bench_holds` of proofs/ says that the definitions give
 -- each of them.
-use Rattle.std.specs.Prelude as std
-use Rattle.std.specs.Prelude.{ℕ, ◌+◌, ◌*◌, ◌^◌, List, [], ◌∷◌, ◌++◌, ◌≡◌, length, set, replicate, take}
-use Rattle.std.proofs.Math.Option.{Option, none, some}
+use Rattle.std.specs.Prelude.{ℕ, ◌+◌, ◌*◌, ◌^◌, List, [], ◌∷◌, ◌++◌, ◌≡◌, length, set, replicate, take, Option, Some, None}
+use Rattle.std.proofs.Math.Option as m
 use Rattle.fields.specs.Fields.{put_at}
 use Rattle.fields.specs.Outcome.{Outcome, value, refused, value_or}
 use Rattle.fields.specs.declared.Order.TheVariants.{Big, Little}
 use Rattle.bars.specs.Bars.{base_at, candidates_at}
 use Rattle.bars.specs.Resource.{resource_at}
-use Rattle.dma.specs.declared.Virt.{Virt}
-use Rattle.dma.specs.declared.Virt.TheVariants.{Absent, At}
 use Rattle.dma.specs.declared.Block.{Block}
 use Rattle.dma.specs.Blocks.{blocks_of}
 use Rattle.dma.specs.Pages.{table, mailboxes}
@@ -44,7 +41,7 @@ then_profile (refused n vs) = refused n vs
 
 -- the layout of a capability reply, "BAR size unknown", and its listing
 abbrev pub layout_for : List ℕ → Outcome Layout
-layout_for s = then_profile (capability_of s std.None)
+layout_for s = then_profile (capability_of s None)
 
 abbrev pub listing_of : List ℕ → Outcome Listing
 listing_of s = list_of (layout_for s)
@@ -119,13 +116,13 @@ abbrev end : List ℕ
 end = 0x79 ∷ 0 ∷ []
 
 -- what a list comes to: the BAR at a base; no answer; 27
-abbrev bar_at : ℕ → Outcome (Option (ℕ × ℕ))
-bar_at base = value (some (base, 0x800000))
+abbrev bar_at : ℕ → Outcome (m.Option (ℕ × ℕ))
+bar_at base = value (m.some (base, 0x800000))
 
-abbrev no_answer : Outcome (Option (ℕ × ℕ))
-no_answer = value none
+abbrev no_answer : Outcome (m.Option (ℕ × ℕ))
+no_answer = value m.none
 
-abbrev bad : Outcome (Option (ℕ × ℕ))
+abbrev bad : Outcome (m.Option (ℕ × ℕ))
 bad = refused 27 []
 
 -- a bench value: a reply with what its listing comes to; a layout with its comparisons; a range of
@@ -134,9 +131,9 @@ bad = refused 27 []
 pub data Case : Type 0 where
   reply : List ℕ → Outcome Listing → Case
   compared : Outcome Layout → (comparisons : ℕ) → Case
-  blocks : Virt → (phys size : ℕ) → List Block → (boxes : ℕ) → Case
+  blocks : Option ℕ → (phys size : ℕ) → List Block → (boxes : ℕ) → Case
   bar : (regs : List ℕ) → (reg base first second : ℕ) → Case
-  list : List ℕ → Outcome (Option (ℕ × ℕ)) → Case
+  list : List ℕ → Outcome (m.Option (ℕ × ℕ)) → Case
 
 abbrev pub Holds : Case → Type 0
 Holds (reply s o) = listing_of s ≡ o
@@ -170,11 +167,11 @@ bench =
     ∷ reply (set input_l 0x49 0x2c) (refused 14 (0x2c ∷ []))
     ∷ reply (set input_l 0x49 0x2b) (value listing_l)
     -- P7 blocks of p 0x3000, size 0x5000, no v: 0x3000 exponent 12, 0x4000 exponent 14
-    ∷ blocks Absent 0x3000 0x5000 (block 0 0x3000 12 ∷ block 0 0x4000 14 ∷ []) 1
+    ∷ blocks None 0x3000 0x5000 (block 0 0x3000 12 ∷ block 0 0x4000 14 ∷ []) 1
     -- P8 v 0x1000, p 0x4000, 257 pages: 257 single pages, two mailboxes
-    ∷ blocks (At 0x1000) 0x4000 (257 * 4096) (table (λ k. block (0x1000 + k * 4096) (0x4000 + k * 4096) 12) 0 257) 2
+    ∷ blocks (Some 0x1000) 0x4000 (257 * 4096) (table (λ k. block (0x1000 + k * 4096) (0x4000 + k * 4096) 12) 0 257) 2
     -- P9 size 0: none
-    ∷ blocks Absent 0 0 [] 0
+    ∷ blocks None 0 0 [] 0
     -- P10 BARs 0xf0000004, 0, 0xe000000c, 0, register 2: base 0xe0000000, candidates 2 and 1
     ∷ bar (0xf0000004 ∷ 0 ∷ 0xe000000c ∷ 0 ∷ 0 ∷ 0 ∷ []) 2 0xe0000000 2 1
     -- Req 04: falling bytes; each larger than all before; all equal; equal but for the last, which passes ten; a reply of ones; none beside a refusal
