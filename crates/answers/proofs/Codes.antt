@@ -13,11 +13,8 @@ use Rattle.reply.specs.declared.FwInfo.{FwInfo}
 use Rattle.reply.specs.declared.FwCheck.{FwCheck}
 use Rattle.reply.specs.declared.FwCheck.TheVariants as f
 use Rattle.reply.specs.declared.PortInfo.{PortInfo}
-use Rattle.layout.specs.Layout.{fit_by, no_layout}
+use Rattle.layout.specs.Layout.{no_layout}
 use Rattle.layout.specs.Counts.{profile_of}
-use Rattle.layout.specs.declared.Layout.{Layout}
-use Rattle.layout.specs.declared.Fit.{Fit}
-use Rattle.layout.specs.declared.Fit.TheVariants as t
 use Rattle.answers.specs.Replies.{code_of}
 use Rattle.answers.specs.Tables.{layout_for, judged_of}
 
@@ -37,11 +34,6 @@ code_fw (f.Revision r) i = refl
 pub code_port : (short : Bool) (i : PortInfo) → pick short 21 0 ≡ number_of (pick short (refused 21 []) (value i))
 code_port true i = refl
 code_port false i = refl
-
-pub code_fit : (x : Fit) (l : Layout) → code_of (fit_by x no_layout) ≡ code_of (fit_by x l)
-code_fit t.Accepted l = refl
-code_fit (t.Entry i) l = refl
-code_fit (t.Total n) l = refl
 
 -- an accepted reply has the layout of its capabilities
 pub layout_good : (x : CapCheck) (c : DevCap) → (code_of (refused_by x no_caps)).number ≡ 0 → layout_for (refused_by x c) ≡ profile_of c

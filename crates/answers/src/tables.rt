@@ -2,14 +2,14 @@
 ghost use Rattle.std.specs.Prelude.{◌≡◌, length};
 ghost use Rattle.fields.specs.Outcome.{value_or};
 ghost use Rattle.reply.specs.Capability.{capability};
-ghost use Rattle.layout.specs.Layout.{fit_by, no_layout};
+ghost use Rattle.layout.specs.Layout.{misfit_by, laid, no_layout};
 ghost use Rattle.answers.specs.Words.{put_words};
 ghost use Rattle.answers.specs.Replies.{code_of};
 ghost use Rattle.answers.specs.Tables.{row_words, rows_words, ranges_words, layout_for, judged_of};
 
 use crate::replies::Code;
 use crate::{replies, words};
-use layout::{Fit, Laid, Layout, Range, Table};
+use layout::{Layout, Misfit, Range, Table};
 use reply::Capability;
 
 fn row_words(t: Table) -> [u64; 5]
@@ -57,33 +57,36 @@ pub struct Judged {
     pub layout: Layout,
 }
 
-fn fit_code(k: Fit) -> Code
-    ensures { result ≡ code_of (fit_by k no_layout) }
+fn misfit_code(k: Misfit) -> Code
+    ensures { result ≡ code_of (misfit_by k) }
 {
     match k {
-        Fit::Accepted => Code {
-            number: Code::GOOD,
-            beside: 0,
-        },
-        Fit::Entry(i) => Code {
+        Misfit::Entry(i) => Code {
             number: 16,
             beside: i as u64,
         },
-        Fit::Total(t) => Code {
+        Misfit::Total(t) => Code {
             number: 17,
             beside: t,
         },
     }
 }
 
-fn judge_laid(l: Laid) -> Judged
-    ensures { result ≡ judged_of (code_of (fit_by l.fit no_layout)) l.layout }
+fn judge_laid(y: Result<Layout, Misfit>) -> Judged
+    ensures { result ≡ judged_of (code_of (laid y)) (value_or no_layout (laid y)) }
 {
-    let k = l.fit;
-    let layout = l.layout;
-    Judged {
-        code: fit_code(k),
-        layout,
+    match y {
+        Ok(layout) => Judged {
+            code: Code {
+                number: Code::GOOD,
+                beside: 0,
+            },
+            layout,
+        },
+        Err(k) => Judged {
+            code: misfit_code(k),
+            layout: Layout::none(),
+        },
     }
 }
 

@@ -3,4 +3,5 @@ pub mod Order
 pub mod Sorting
 pub mod Placing
 pub mod Bounds
+pub mod Held
 mod Answers
