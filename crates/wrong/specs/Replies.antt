@@ -12,13 +12,13 @@ use Rattle.reply.specs.declared.CapCheck.TheVariants as k
 use Rattle.reply.specs.declared.FwInfo.{FwInfo}
 use Rattle.reply.specs.declared.PortInfo.{PortInfo}
 use Rattle.reply.specs.declared.FuncInfo.{FuncInfo}
-use Rattle.layout.specs.Layout.{pow2_of, no_table, no_layout, rows_of, table_in, layout_of, fit_by}
+use Rattle.layout.specs.Layout.{pow2_of, no_table, no_layout, rows_of, table_in, layout_of, misfit_by}
 use Rattle.layout.specs.Counts.{base_sqpn, first_free_mtt, counts_of, profile_of}
 use Rattle.layout.specs.declared.Table.{Table}
 use Rattle.layout.specs.declared.Range.{Range}
 use Rattle.layout.specs.declared.Layout.{Layout}
-use Rattle.layout.specs.declared.Fit.{Fit}
-use Rattle.layout.specs.declared.Fit.TheVariants as f
+use Rattle.layout.specs.declared.Misfit.{Misfit}
+use Rattle.layout.specs.declared.Misfit.TheVariants as f
 use Rattle.init.specs.Init.{field, put_all, filled_by, fill_of, fields_of, init_of, mod_stat_cfg}
 use Rattle.init.specs.declared.Field.{Field}
 use Rattle.init.specs.declared.InitHca.{InitHca}
@@ -232,8 +232,8 @@ mapped_numbers l = range_numbers l.ranges
 abbrev card : DevCap
 card = dev_cap_of cap_reply
 
-abbrev fits : (Fit → ℕ) → List ℕ
-fits t = t f.Accepted ∷ t (f.Entry 9) ∷ t (f.Total 7) ∷ []
+abbrev misfits : (Misfit → ℕ) → List ℕ
+misfits t = t (f.Entry 9) ∷ t (f.Total 7) ∷ []
 
 -- the ranges of these tables, as `mapped_numbers` tells them
 abbrev ranges_are : List ℕ
@@ -252,8 +252,8 @@ layouts =
     row (count_trailing_zeros 64 1024 ∷ []) (11 ∷ []) (9 ∷ []) ∷
     -- log2 of 0: 0; 63
     row (count_trailing_zeros 64 0 ∷ []) (0 ∷ []) (63 ∷ []) ∷
-    -- Fit::number: 16 and 17 exchanged; 16 for both
-    row (fits (λ x. number_of (fit_by x no_layout))) (0 ∷ 17 ∷ 16 ∷ []) (0 ∷ 16 ∷ 16 ∷ []) ∷
+    -- Misfit::number: 16 and 17 exchanged; 16 for both
+    row (misfits (λ x. number_of (misfit_by x))) (17 ∷ 16 ∷ []) (16 ∷ 16 ∷ []) ∷
     -- Table::none: a page of bytes; a count of 1
     row (table_numbers no_table) (0 ∷ 0 ∷ 0 ∷ 4096 ∷ 0 ∷ []) (0 ∷ 0 ∷ 1 ∷ 0 ∷ 0 ∷ []) ∷
     -- Layout::none: eleven pages in all; the tables numbered
