@@ -1,4 +1,3 @@
-use borrow.Author.Rules.{rules}
 use Rattle.command.proofs.catas_read.Goals as goal
 
 pub returns-in-Known : goal.returns-in-Known

@@ -1,5 +1,4 @@
 use borrow.Author.Tests.{lt-ltb, le-ltb}
-use borrow.Author.Rules.{rules}
 use Rattle.command.proofs.one_more.Goals as goal
 
 pub returns-then-n-lt-STALLS : goal.returns-then-n-lt-STALLS

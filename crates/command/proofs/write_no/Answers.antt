@@ -1,6 +1,5 @@
 use mathlib.Core.List.{List}
 use mathlib.Core.Path.{ap}
-use borrow.Author.Rules.{rules}
 use lib.ListN.{get_or}
 use Rattle.hcr.specs.declared.RegWrite.{RegWrite as RegWriteOf}
 use Rattle.pci.specs.declared.Question.TheVariants.{RegWrite}

@@ -1,5 +1,4 @@
 use borrow.Author.Tests.{le-leb, lt-leb}
-use borrow.Author.Rules.{rules}
 use Rattle.command.proofs.Cmd.seen.Goals as goal
 
 pub returns-then-waited-ge-TIMEOUT_US : goal.returns-then-waited-ge-TIMEOUT_US
