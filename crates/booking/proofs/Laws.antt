@@ -8,15 +8,13 @@ use lib.Dec.{ltb}
 use lib.ListN.{length}
 use lib.Seq.{get_or-set_same}
 use borrow.Author.Tests.{ltb-true}
+use Rattle.std.specs.Prelude.{Result, Ok, Err}
 use Rattle.fields.specs.Outcome.{pick}
 use Rattle.pci.specs.Views.{granted_of, mapped_of}
 use Rattle.pci.specs.declared.Question.{Question}
 use Rattle.pci.specs.declared.Question.TheVariants as q
 use Rattle.pci.specs.declared.Answer.{Answer}
-use Rattle.pci.specs.declared.HandleReply.{HandleReply}
-use Rattle.pci.specs.declared.HandleReply.TheVariants as h
-use Rattle.pci.specs.declared.MapReply.{MapReply}
-use Rattle.pci.specs.declared.MapReply.TheVariants as d
+use Rattle.pci.specs.declared.NoReply.{NoReply}
 use Rattle.words.specs.Places.{SLOT, SLOTS, slots_at, state_bytes}
 use Rattle.words.proofs.Laws.{rows_count}
 use Rattle.words_books.specs.Coding.{slot_words, slot_of}
@@ -41,17 +39,15 @@ slots_length xs = by (ltb (length xs) state_bytes)
 put_in : (i : ℕ) (x : Slot) (b : Books) → i < length b.lists.slots → slot_at (puts i x b).lists.slots i ≡ x
 put_in i x b e = get_or-set_same b.lists.slots i x no_slot e
 
-grant_in : (i w n : ℕ) (y : HandleReply) (b : Books) → i < length b.lists.slots
+grant_in : (i w n : ℕ) (y : Result ℕ NoReply) (b : Books) → i < length b.lists.slots
     → slot_at (granted_books i w n y b).lists.slots i ≡ granted w n y (slot_at b.lists.slots i)
-grant_in i w n (h.Got k) b e = put_in i _ b e
-grant_in i w n h.Failed b e = refl
-grant_in i w n h.Wrong b e = refl
+grant_in i w n (Ok k) b e = put_in i _ b e
+grant_in i w n (Err _) b e = refl
 
-map_in_lem : (i : ℕ) (y : MapReply) (b : Books) → i < length b.lists.slots
+map_in_lem : (i : ℕ) (y : Result (ℕ × ℕ) NoReply) (b : Books) → i < length b.lists.slots
     → slot_at (mapped_books i y b).lists.slots i ≡ mapped y (slot_at b.lists.slots i)
-map_in_lem i (d.Got k n) b e = put_in i _ b e
-map_in_lem i d.Failed b e = refl
-map_in_lem i d.Wrong b e = refl
+map_in_lem i (Ok (k, n)) b e = put_in i _ b e
+map_in_lem i (Err _) b e = refl
 
 turned_in : (i w : ℕ) (y : Question) (a : Answer) (b : Books) → i < length b.lists.slots
     → slot_at (answers_by i w y a b).lists.slots i ≡ turned w y a (slot_at b.lists.slots i)

@@ -8,15 +8,13 @@ use lib.Dec.{ltb}
 use lib.ListN.{length, set}
 use lib.Seq.{set_out, set-get_or}
 use borrow.Author.Tests.{ltb-true, ltb-false}
+use Rattle.std.specs.Prelude.{Result, Ok, Err}
 use Rattle.fields.specs.Outcome.{pick}
 use Rattle.pci.specs.Views.{granted_of, mapped_of}
 use Rattle.pci.specs.declared.Question.{Question}
 use Rattle.pci.specs.declared.Question.TheVariants as q
 use Rattle.pci.specs.declared.Answer.{Answer}
-use Rattle.pci.specs.declared.HandleReply.{HandleReply}
-use Rattle.pci.specs.declared.HandleReply.TheVariants as h
-use Rattle.pci.specs.declared.MapReply.{MapReply}
-use Rattle.pci.specs.declared.MapReply.TheVariants as d
+use Rattle.pci.specs.declared.NoReply.{NoReply}
 use Rattle.words.specs.Places.{SLOT, slots_at}
 use Rattle.words_books.specs.Coding.{slot_words}
 use Rattle.words_books.specs.Fits.{SlotFits}
@@ -53,15 +51,13 @@ turn_rewrites s z i w y a v fit d e =
     (subst (λ (x : Slot). Rewrites s (slot_put i v s) (with_slots (set b.slots i x) b)) d (by_number (ltb i 82) s i v fit refl))
 
 -- THE SLOTS OF THE BOOKS then
-set_grant : (i w n : ℕ) (y : HandleReply) (b : Books) → set b.lists.slots i (granted w n y (slot_at b.lists.slots i)) ≡ (granted_books i w n y b).lists.slots
-set_grant i w n (h.Got k) b = refl
-set_grant i w n h.Failed b = set-get_or b.lists.slots i no_slot
-set_grant i w n h.Wrong b = set-get_or b.lists.slots i no_slot
+set_grant : (i w n : ℕ) (y : Result ℕ NoReply) (b : Books) → set b.lists.slots i (granted w n y (slot_at b.lists.slots i)) ≡ (granted_books i w n y b).lists.slots
+set_grant i w n (Ok k) b = refl
+set_grant i w n (Err _) b = set-get_or b.lists.slots i no_slot
 
-set_map : (i : ℕ) (y : MapReply) (b : Books) → set b.lists.slots i (mapped y (slot_at b.lists.slots i)) ≡ (mapped_books i y b).lists.slots
-set_map i (d.Got k n) b = refl
-set_map i d.Failed b = set-get_or b.lists.slots i no_slot
-set_map i d.Wrong b = set-get_or b.lists.slots i no_slot
+set_map : (i : ℕ) (y : Result (ℕ × ℕ) NoReply) (b : Books) → set b.lists.slots i (mapped y (slot_at b.lists.slots i)) ≡ (mapped_books i y b).lists.slots
+set_map i (Ok (k, n)) b = refl
+set_map i (Err _) b = set-get_or b.lists.slots i no_slot
 
 set_turned : (i w : ℕ) (y : Question) (a : Answer) (b : Books) → set b.lists.slots i (turned w y a (slot_at b.lists.slots i)) ≡ (answers_by i w y a b).lists.slots
 set_turned i w (q.ConfigRead16 o) a b = set-get_or b.lists.slots i no_slot

@@ -1,12 +1,9 @@
 -- WHAT AN ANSWER LEAVES OF THE SLOTS, in place: at most the one slot that the task under way is for is written.
-use Rattle.std.specs.Prelude.{ℕ, ◌+◌, Bool, true, false, List, ◌≡◌, ltb, set}
+use Rattle.std.specs.Prelude.{ℕ, ◌+◌, Bool, true, false, List, ◌≡◌, ltb, set, Result, Ok, Err}
 use Rattle.fields.specs.Outcome.{pick}
 use Rattle.pci.specs.Views.{granted_of, mapped_of}
 use Rattle.pci.specs.declared.Answer.{Answer}
-use Rattle.pci.specs.declared.HandleReply.{HandleReply}
-use Rattle.pci.specs.declared.HandleReply.TheVariants as h
-use Rattle.pci.specs.declared.MapReply.{MapReply}
-use Rattle.pci.specs.declared.MapReply.TheVariants as d
+use Rattle.pci.specs.declared.NoReply.{NoReply}
 use Rattle.pci.specs.declared.Question.{Question}
 use Rattle.pci.specs.declared.Question.TheVariants as q
 use Rattle.session.specs.declared.Area.{Area}
@@ -28,21 +25,11 @@ use Rattle.booking.specs.declared.Place.TheVariants as p
 
 -- a run of pages is handed over, mapped, unmapped or freed
 abbrev pub is_deal : Question → Bool
-is_deal (q.ConfigRead16 o) = false
-is_deal (q.ConfigRead32 o) = false
-is_deal (q.ConfigWrite16 o y) = false
-is_deal (q.ConfigWrite32 o y) = false
-is_deal (q.RegRead k o) = false
-is_deal (q.RegWrite k o y) = false
-is_deal (q.Attributes o y) = false
-is_deal (q.Resource k) = false
-is_deal (q.Stall u) = false
 is_deal (q.Allocate n) = true
 is_deal (q.Map k n) = true
 is_deal (q.Unmap k) = true
 is_deal (q.Free k n) = true
-is_deal q.Fence = false
-is_deal q.Finished = false
+is_deal _ = false
 
 -- the slot of a place, as the books have it
 abbrev pub left_at : c.Place → Books → List ℕ → List ℕ
@@ -97,32 +84,20 @@ abbrev pub StagePlace : Place → Stage → Behind → Type 0
 StagePlace r g b = (s : Core) → place_of r ≡ within (place_at g (full s b).info)
 
 -- ONE SLOT after an answer
-abbrev pub granted : (virt pages : ℕ) → HandleReply → Slot → Slot
-granted v n (h.Got k) x = bare v k n
-granted v n h.Failed x = x
-granted v n h.Wrong x = x
+abbrev pub granted : (virt pages : ℕ) → Result ℕ NoReply → Slot → Slot
+granted v n (Ok k) x = bare v k n
+granted v n (Err _) x = x
 
-abbrev pub mapped : MapReply → Slot → Slot
-mapped (d.Got address bytes) x = mapped_at x address
-mapped d.Failed x = x
-mapped d.Wrong x = x
+abbrev pub mapped : Result (ℕ × ℕ) NoReply → Slot → Slot
+mapped (Ok (address, bytes)) x = mapped_at x address
+mapped (Err _) x = x
 
 abbrev pub turned : (virt : ℕ) → Question → Answer → Slot → Slot
-turned w (q.ConfigRead16 o) a x = x
-turned w (q.ConfigRead32 o) a x = x
-turned w (q.ConfigWrite16 o y) a x = x
-turned w (q.ConfigWrite32 o y) a x = x
-turned w (q.RegRead k o) a x = x
-turned w (q.RegWrite k o y) a x = x
-turned w (q.Attributes o y) a x = x
-turned w (q.Resource k) a x = x
-turned w (q.Stall u) a x = x
 turned w (q.Allocate n) a x = granted w n (granted_of a) x
 turned w (q.Map k n) a x = mapped (mapped_of a) x
 turned w (q.Unmap k) a x = unmapped_from x
 turned w (q.Free k n) a x = no_slot
-turned w q.Fence a x = x
-turned w q.Finished a x = x
+turned w _ a x = x
 
 -- THE BYTES with one slot as an answer leaves it, out of these slots
 abbrev pub turned_at : c.Place → Question → Answer → List Slot → List ℕ → List ℕ

@@ -13,7 +13,7 @@ ghost use Rattle.closing_plan.specs.Plan as kl;
 ghost use Rattle.opening_plan.specs.Plan.{box_of};
 ghost use Rattle.booking.specs.Booking as b;
 
-use pci::{Answer, HandleReply, MapReply, Question};
+use pci::{Answer, NoReply, Question};
 use session::{Area, Boot, Client, Close, Core, Prepare, Slot, Stage};
 
 // What a task's buffer is for: nothing; one of the mailboxes; or this slot, a range's with its card address.
@@ -70,13 +70,9 @@ fn box_place(p: Prepare) -> Place
     ensures { b.place_of result ≡ b.within (box_of p) }
 {
     match p {
-        Prepare::Attributes => Place::Neither,
-        Prepare::Claim => Place::Neither,
-        Prepare::Reset => Place::Neither,
-        Prepare::Bar => Place::Neither,
         Prepare::Inbox => Place::Inbox,
         Prepare::Outbox => Place::Outbox,
-        Prepare::Look => Place::Neither,
+        _ => Place::Neither,
     }
 }
 
@@ -102,9 +98,8 @@ fn client_place(c: Client) -> Place
     ensures { b.place_of result ≡ b.within (kc.place_in c) }
 {
     match c {
-        Client::Command(_) => Place::Neither,
         Client::Lend(i) => lend_place(i),
-        Client::UndoTo(_, _) => Place::Neither,
+        Client::Command(_) | Client::UndoTo(..) => Place::Neither,
     }
 }
 
@@ -112,16 +107,8 @@ fn close_place(c: Close) -> Place
     ensures { b.place_of result ≡ b.within (kl.place_in c) }
 {
     match c {
-        Close::Undo(_) => Place::Neither,
-        Close::CloseHca => Place::Neither,
-        Close::Unmap(_) => Place::Neither,
-        Close::UnmapAux => Place::Neither,
-        Close::UnmapFa => Place::Neither,
-        Close::Quiesce => Place::Neither,
-        Close::Reset => Place::Neither,
         Close::Free(i) => slot_place(i),
-        Close::Release => Place::Neither,
-        Close::Restore => Place::Neither,
+        _ => Place::Neither,
     }
 }
 
@@ -140,11 +127,11 @@ fn wants(stage: Stage, m: &[u8]) -> Place
 }
 
 // A run that is handed over is put down.
-fn grant(x: Slot, virt: u64, pages: u64, y: HandleReply) -> Slot
+fn grant(x: Slot, virt: u64, pages: u64, y: Result<u64, NoReply>) -> Slot
     ensures { result ≡ b.granted virt pages y x }
 {
     match y {
-        HandleReply::Got(handle) => Slot {
+        Ok(handle) => Slot {
             runs: 1,
             virt,
             handle,
@@ -152,23 +139,21 @@ fn grant(x: Slot, virt: u64, pages: u64, y: HandleReply) -> Slot
             pages,
             mapped: false,
         },
-        HandleReply::Failed => x,
-        HandleReply::Wrong => x,
+        Err(_) => x,
     }
 }
 
 // One that is mapped is marked, with its device address; one that is unmapped is no longer.
-fn map(x: Slot, y: MapReply) -> Slot
+fn map(x: Slot, y: Result<(u64, u64), NoReply>) -> Slot
     ensures { result ≡ b.mapped y x }
 {
     match y {
-        MapReply::Got(dev, _) => Slot {
+        Ok((dev, _)) => Slot {
             dev,
             mapped: true,
             ..x
         },
-        MapReply::Failed => x,
-        MapReply::Wrong => x,
+        Err(_) => x,
     }
 }
 
@@ -197,21 +182,11 @@ fn turn(x: Slot, virt: u64, q: Question, a: Answer) -> Slot
     ensures { result ≡ b.turned virt q a x }
 {
     match q {
-        Question::ConfigRead16(_) => x,
-        Question::ConfigRead32(_) => x,
-        Question::ConfigWrite16(_, _) => x,
-        Question::ConfigWrite32(_, _) => x,
-        Question::RegRead(_, _) => x,
-        Question::RegWrite(_, _, _) => x,
-        Question::Attributes(_, _) => x,
-        Question::Resource(_) => x,
-        Question::Stall(_) => x,
         Question::Allocate(n) => grant(x, virt, n, pci::as_handle(a)),
-        Question::Map(_, _) => map(x, pci::as_map(a)),
+        Question::Map(..) => map(x, pci::as_map(a)),
         Question::Unmap(_) => unmap(x),
-        Question::Free(_, _) => empty(),
-        Question::Fence => x,
-        Question::Finished => x,
+        Question::Free(..) => empty(),
+        _ => x,
     }
 }
 
@@ -239,23 +214,10 @@ fn put_at(p: Place, q: Question, a: Answer, m: &mut [u8])
 fn is_deal(q: Question) -> bool
     ensures { result ≡ b.is_deal q }
 {
-    match q {
-        Question::ConfigRead16(_) => false,
-        Question::ConfigRead32(_) => false,
-        Question::ConfigWrite16(_, _) => false,
-        Question::ConfigWrite32(_, _) => false,
-        Question::RegRead(_, _) => false,
-        Question::RegWrite(_, _, _) => false,
-        Question::Attributes(_, _) => false,
-        Question::Resource(_) => false,
-        Question::Stall(_) => false,
-        Question::Allocate(_) => true,
-        Question::Map(_, _) => true,
-        Question::Unmap(_) => true,
-        Question::Free(_, _) => true,
-        Question::Fence => false,
-        Question::Finished => false,
-    }
+    matches!(
+        q,
+        Question::Allocate(_) | Question::Map(..) | Question::Unmap(_) | Question::Free(..)
+    )
 }
 
 // Writes the slot of the task under way as the answer to this question leaves it. Any question but these four leaves the bytes, and no layout is worked out for it.

@@ -1,5 +1,5 @@
 -- Every state of the two machines does what is left of its script, and a start has the whole script before it.
-use Prim.Native.Nat.{ℕ, ◌*◌, ◌/◌, ◌-◌}
+use Prim.Native.Nat.{ℕ, ◌*◌, ◌/◌}
 use mathlib.Core.Bool.{Bool, true, false}
 use mathlib.Core.Path.{◌≡◌, refl, ap}
 use native.Mathlib.Omega.{arith}

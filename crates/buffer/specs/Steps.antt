@@ -1,5 +1,5 @@
 -- The two machines: the question of each state, what an answer makes of it, and the script that is left.
-use Rattle.std.specs.Prelude.{ℕ, ◌*◌, ◌/◌, List, eqb}
+use Rattle.std.specs.Prelude.{ℕ, ◌*◌, ◌/◌, List, eqb, Result, Ok, Err}
 use Rattle.fields.specs.Outcome.{pick}
 use Rattle.dma.specs.Buffers.{pages_for, accept_at}
 use Rattle.dma.specs.declared.Buffer.{Buffer}
@@ -9,12 +9,8 @@ use Rattle.pci.specs.Machine.{Next, more, ended, Follows}
 use Rattle.pci.specs.declared.Question.{Question}
 use Rattle.pci.specs.declared.Question.TheVariants as q
 use Rattle.pci.specs.declared.Answer.{Answer}
-use Rattle.pci.specs.declared.DoneReply.{DoneReply}
-use Rattle.pci.specs.declared.DoneReply.TheVariants as o
-use Rattle.pci.specs.declared.HandleReply.{HandleReply}
-use Rattle.pci.specs.declared.HandleReply.TheVariants as h
-use Rattle.pci.specs.declared.MapReply.{MapReply}
-use Rattle.pci.specs.declared.MapReply.TheVariants as d
+use Rattle.pci.specs.declared.NoReply.{NoReply}
+use Rattle.pci.specs.declared.NoReply.TheVariants.{Failed, Wrong}
 use Rattle.buffer.specs.Buffer.{by_outcome, release, mapping, allocating, freeing}
 use Rattle.buffer.specs.declared.Fault.{Fault}
 use Rattle.buffer.specs.declared.Fault.TheVariants as f
@@ -47,10 +43,10 @@ make_asks_at n (p.Free handle x) = q.Free handle n
 abbrev pub make_asks : Making → Question
 make_asks k = make_asks_at (pages_in k) k.phase
 
-abbrev pub allocated : Making → HandleReply → MakeStep
-allocated k (h.Got handle) = s.More (in_phase k (p.Map handle))
-allocated k h.Failed = s.Ended (m.Refused f.Memory)
-allocated k h.Wrong = s.More k
+abbrev pub allocated : Making → Result ℕ NoReply → MakeStep
+allocated k (Ok handle) = s.More (in_phase k (p.Map handle))
+allocated k (Err Failed) = s.Ended (m.Refused f.Memory)
+allocated k (Err Wrong) = s.More k
 
 -- the address is looked at before the size
 abbrev pub spotted : Making → (handle address bytes : ℕ) → MakeStep
@@ -61,20 +57,20 @@ spotted k handle address bytes =
     (s.More (in_phase k (p.Unmap handle f.Memory))))
     (s.More (in_phase k (p.Unmap handle f.Address)))
 
-abbrev pub map_step : Making → (handle : ℕ) → MapReply → MakeStep
-map_step k handle (d.Got address bytes) = spotted k handle address bytes
-map_step k handle d.Failed = s.More (in_phase k (p.Free handle f.Memory))
-map_step k handle d.Wrong = s.More k
+abbrev pub map_step : Making → (handle : ℕ) → Result (ℕ × ℕ) NoReply → MakeStep
+map_step k handle (Ok (address, bytes)) = spotted k handle address bytes
+map_step k handle (Err Failed) = s.More (in_phase k (p.Free handle f.Memory))
+map_step k handle (Err Wrong) = s.More k
 
-abbrev pub unmapped : Making → (handle : ℕ) → Fault → DoneReply → MakeStep
-unmapped k handle x o.Done = s.More (in_phase k (p.Free handle x))
-unmapped k handle x o.Failed = s.More (in_phase k (p.Free handle x))
-unmapped k handle x o.Wrong = s.More k
+abbrev pub unmapped : Making → (handle : ℕ) → Fault → Result (Unit {0}) NoReply → MakeStep
+unmapped k handle x (Ok _) = s.More (in_phase k (p.Free handle x))
+unmapped k handle x (Err Failed) = s.More (in_phase k (p.Free handle x))
+unmapped k handle x (Err Wrong) = s.More k
 
-abbrev pub freed : Making → Fault → DoneReply → MakeStep
-freed k x o.Done = s.Ended (m.Refused x)
-freed k x o.Failed = s.Ended (m.Refused x)
-freed k x o.Wrong = s.More k
+abbrev pub freed : Making → Fault → Result (Unit {0}) NoReply → MakeStep
+freed k x (Ok _) = s.Ended (m.Refused x)
+freed k x (Err Failed) = s.Ended (m.Refused x)
+freed k x (Err Wrong) = s.More k
 
 abbrev pub make_step_at : Making → Answer → MakePhase → MakeStep
 make_step_at k a p.Allocate = allocated k (granted_of a)
@@ -122,12 +118,12 @@ free_asks_at handle n e.Free = q.Free handle n
 abbrev pub free_asks : Freeing → Question
 free_asks k = free_asks_at k.handle k.pages k.phase
 
-abbrev pub free_on : Freeing → FreeStep → DoneReply → FreeStep
-free_on k next o.Done = next
-free_on k next o.Failed = next
-free_on k next o.Wrong = t.More k
+abbrev pub free_on : Freeing → FreeStep → Result (Unit {0}) NoReply → FreeStep
+free_on k next (Ok _) = next
+free_on k next (Err Failed) = next
+free_on k next (Err Wrong) = t.More k
 
-abbrev pub free_step_at : Freeing → DoneReply → FreePhase → FreeStep
+abbrev pub free_step_at : Freeing → Result (Unit {0}) NoReply → FreePhase → FreeStep
 free_step_at k r e.Unmap = free_on k (t.More (to_free k)) r
 free_step_at k r e.Free = free_on k t.Freed r
 

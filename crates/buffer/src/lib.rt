@@ -10,7 +10,7 @@ ghost use Rattle.buffer.specs.Steps.{start_free, free_on, free_asks, free_step_o
 ghost use Rattle.buffer.specs.declared.MakeStep.TheVariants.{More};
 
 use dma::Buffer;
-use pci::{Answer, DoneReply, HandleReply, MapReply, Question, Refusal};
+use pci::{Answer, NoReply, Question, Refusal};
 
 // Why there is no buffer: memory was not to be had, or its device address cannot be used.
 #[derive(Clone, Copy)]
@@ -124,13 +124,13 @@ impl Making {
     }
 
     // The pages were handed over, or not.
-    fn granted(self, r: HandleReply) -> MakeStep
+    fn granted(self, r: Result<u64, NoReply>) -> MakeStep
         ensures { result ≡ allocated self r }
     {
         match r {
-            HandleReply::Got(handle) => self.at(MakePhase::Map(handle)),
-            HandleReply::Failed => MakeStep::Ended(Made::Refused(Fault::Memory)),
-            HandleReply::Wrong => MakeStep::More(self),
+            Ok(handle) => self.at(MakePhase::Map(handle)),
+            Err(NoReply::Failed) => MakeStep::Ended(Made::Refused(Fault::Memory)),
+            Err(NoReply::Wrong) => MakeStep::More(self),
         }
     }
 
@@ -154,33 +154,31 @@ impl Making {
         }
     }
 
-    fn mapped(self, handle: u64, r: MapReply) -> MakeStep
+    fn mapped(self, handle: u64, r: Result<(u64, u64), NoReply>) -> MakeStep
         ensures { result ≡ map_step self handle r }
     {
         match r {
-            MapReply::Got(address, bytes) => self.placed(handle, address, bytes),
-            MapReply::Failed => self.at(MakePhase::Free(handle, Fault::Memory)),
-            MapReply::Wrong => MakeStep::More(self),
+            Ok((address, bytes)) => self.placed(handle, address, bytes),
+            Err(NoReply::Failed) => self.at(MakePhase::Free(handle, Fault::Memory)),
+            Err(NoReply::Wrong) => MakeStep::More(self),
         }
     }
 
-    fn unmap(self, handle: u64, fault: Fault, r: DoneReply) -> MakeStep
+    fn unmap(self, handle: u64, fault: Fault, r: Result<(), NoReply>) -> MakeStep
         ensures { result ≡ unmapped self handle fault r }
     {
         match r {
-            DoneReply::Done => self.at(MakePhase::Free(handle, fault)),
-            DoneReply::Failed => self.at(MakePhase::Free(handle, fault)),
-            DoneReply::Wrong => MakeStep::More(self),
+            Ok(()) | Err(NoReply::Failed) => self.at(MakePhase::Free(handle, fault)),
+            Err(NoReply::Wrong) => MakeStep::More(self),
         }
     }
 
-    fn free(self, fault: Fault, r: DoneReply) -> MakeStep
+    fn free(self, fault: Fault, r: Result<(), NoReply>) -> MakeStep
         ensures { result ≡ freed self fault r }
     {
         match r {
-            DoneReply::Done => MakeStep::Ended(Made::Refused(fault)),
-            DoneReply::Failed => MakeStep::Ended(Made::Refused(fault)),
-            DoneReply::Wrong => MakeStep::More(self),
+            Ok(()) | Err(NoReply::Failed) => MakeStep::Ended(Made::Refused(fault)),
+            Err(NoReply::Wrong) => MakeStep::More(self),
         }
     }
 
@@ -220,13 +218,12 @@ impl Freeing {
     }
 
     // What follows a call whose failure is passed over.
-    fn goes(self, next: FreeStep, r: DoneReply) -> FreeStep
+    fn goes(self, next: FreeStep, r: Result<(), NoReply>) -> FreeStep
         ensures { result ≡ free_on self next r }
     {
         match r {
-            DoneReply::Done => next,
-            DoneReply::Failed => next,
-            DoneReply::Wrong => FreeStep::More(self),
+            Ok(()) | Err(NoReply::Failed) => next,
+            Err(NoReply::Wrong) => FreeStep::More(self),
         }
     }
 

@@ -9,6 +9,7 @@ use mathlib.Core.Path.{◌≡◌, refl}
 use lib.Dec.{eqb, leb, ltb}
 use lib.ListN.{length}
 use borrow.Author.Tests.{ltb-true}
+use Rattle.std.specs.Prelude.{Result, Ok, Err}
 use Rattle.fields.specs.Outcome.{Outcome, value, refused, pick}
 use Rattle.dma.specs.Buffers.{pages_for}
 use Rattle.dma.specs.PageList.{listed_of}
@@ -20,10 +21,7 @@ use Rattle.pci.specs.declared.Refusal.TheVariants as x
 use Rattle.pci.specs.declared.Answer.{Answer}
 use Rattle.pci.specs.declared.Question.{Question}
 use Rattle.pci.specs.declared.Question.TheVariants as q
-use Rattle.pci.specs.declared.HandleReply.{HandleReply}
-use Rattle.pci.specs.declared.HandleReply.TheVariants as hr
-use Rattle.pci.specs.declared.MapReply.{MapReply}
-use Rattle.pci.specs.declared.MapReply.TheVariants as mr
+use Rattle.pci.specs.declared.NoReply.{NoReply}
 use Rattle.pci.specs.Views.{granted_of, mapped_of}
 use Rattle.command.specs.declared.CmdResult.{CmdResult}
 use Rattle.reset.specs.Reset.{is_good}
@@ -374,16 +372,14 @@ module _ (Q : Type 0) where
   answers_in j w (q.Stall u) v d h = h
   answers_in j w (q.Allocate n) v d h = granted (granted_of v)
     where
-      granted : (r : HandleReply) → Fact (granted_books j w n r d)
-      granted (hr.Got k) = h
-      granted hr.Failed = h
-      granted hr.Wrong = h
+      granted : (r : Result ℕ NoReply) → Fact (granted_books j w n r d)
+      granted (Ok k) = h
+      granted (Err _) = h
   answers_in j w (q.Map k n) v d h = mapped (mapped_of v)
     where
-      mapped : (r : MapReply) → Fact (mapped_books j r d)
-      mapped (mr.Got x y) = h
-      mapped mr.Failed = h
-      mapped mr.Wrong = h
+      mapped : (r : Result (ℕ × ℕ) NoReply) → Fact (mapped_books j r d)
+      mapped (Ok (x, y)) = h
+      mapped (Err _) = h
   answers_in j w (q.Unmap k) v d h = h
   answers_in j w (q.Free k n) v d h = h
   answers_in j w q.Fence v d h = h

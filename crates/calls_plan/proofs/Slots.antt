@@ -19,10 +19,6 @@ use Rattle.pci.specs.declared.Refusal.TheVariants as x
 use Rattle.pci.specs.declared.Answer.{Answer}
 use Rattle.pci.specs.declared.Question.{Question}
 use Rattle.pci.specs.declared.Question.TheVariants as q
-use Rattle.pci.specs.declared.HandleReply.{HandleReply}
-use Rattle.pci.specs.declared.HandleReply.TheVariants as hr
-use Rattle.pci.specs.declared.MapReply.{MapReply}
-use Rattle.pci.specs.declared.MapReply.TheVariants as mr
 use Rattle.pci.specs.Views.{granted_of, mapped_of}
 use Rattle.command.specs.declared.CmdResult.{CmdResult}
 use Rattle.reset.specs.Reset.{is_good}

@@ -9,21 +9,18 @@ use native.Mathlib.Omega.{arith}
 use borrow.Author.Tests.{ltb-true, ltb-false, lt-ltb, le-ltb, le-leb, lt-leb}
 use lib.Dec.{eqb, ltb, leb}
 use lib.ListN.{drop}
+use Rattle.std.specs.Prelude.{Result, Ok, Err}
 use Rattle.fields.specs.Outcome.{pick}
 use Rattle.hcr.specs.Words.{register, swap_of, pending_in, status_in, stall_of, waited_of}
 use Rattle.hcr.specs.declared.Post.{Post}
 use Rattle.hcr.proofs.Laws.{no_sooner}
 use Rattle.pci.specs.Views.{dword_of, done_of, told_of}
-use Rattle.pci.specs.Script.{Script, ask, stall, as_register, as_done, as_told}
+use Rattle.pci.specs.Script.{Script, ask, stall, as_register, as_bus, as_told}
 use Rattle.pci.specs.Machine.{Next, more, Right, Follows, rest}
 use Rattle.pci.specs.declared.Question.TheVariants.{RegWrite}
 use Rattle.pci.specs.declared.Answer.{Answer}
-use Rattle.pci.specs.declared.DwordReply.{DwordReply}
-use Rattle.pci.specs.declared.DwordReply.TheVariants as d
-use Rattle.pci.specs.declared.DoneReply.{DoneReply}
-use Rattle.pci.specs.declared.DoneReply.TheVariants as o
-use Rattle.pci.specs.declared.ToldReply.{ToldReply}
-use Rattle.pci.specs.declared.ToldReply.TheVariants as t
+use Rattle.pci.specs.declared.NoReply.{NoReply}
+use Rattle.pci.specs.declared.NoReply.TheVariants.{Failed, Wrong}
 use Rattle.command.specs.declared.Catas.{Catas}
 use Rattle.command.specs.declared.Catas.TheVariants.{Known, Unknown}
 use Rattle.command.specs.declared.CmdResult.TheVariants as r
@@ -43,26 +40,26 @@ module _ (inbox : List ℕ) where
   abbrev after : CmdStep → Script CmdEnd
   after x = rest cmd_asks stepped (cmd_script inbox) (next x)
 
-  dword_case : (v : DwordReply) (c : Cmd) (us : ℕ) (f : ℕ → CmdStep) (k : ℕ → Script CmdEnd) → ((x : ℕ) → after (f x) ≡ k x)
+  dword_case : (v : Result ℕ NoReply) (c : Cmd) (us : ℕ) (f : ℕ → CmdStep) (k : ℕ → Script CmdEnd) → ((x : ℕ) → after (f x) ≡ k x)
       → Right (as_register v) (λ x. after (on_dword c us f v) ≡ on_read (ending c.toggle (r.Bus us)) k x) (next (on_dword c us f v) ≡ more c)
-  dword_case (d.Got x) c us f k h = h _
-  dword_case d.Failed c us f k h = refl
-  dword_case d.Wrong c us f k h = refl
+  dword_case (Ok x) c us f k h = h _
+  dword_case (Err Failed) c us f k h = refl
+  dword_case (Err Wrong) c us f k h = refl
 
-  done_case : (v : DoneReply) (c : Cmd) (f : CmdStep) (k : Script CmdEnd) → after f ≡ k
-      → Right (as_done v) (λ x. after (on_done c f v) ≡ on_write (ending c.toggle (r.Bus 0)) k x) (next (on_done c f v) ≡ more c)
-  done_case o.Done c f k h = h
-  done_case o.Failed c f k h = refl
-  done_case o.Wrong c f k h = refl
+  done_case : (v : Result (Unit {0}) NoReply) (c : Cmd) (f : CmdStep) (k : Script CmdEnd) → after f ≡ k
+      → Right (as_bus v) (λ x. after (on_done c f v) ≡ on_write (ending c.toggle (r.Bus 0)) k x) (next (on_done c f v) ≡ more c)
+  done_case (Ok _) c f k h = h
+  done_case (Err Failed) c f k h = refl
+  done_case (Err Wrong) c f k h = refl
 
-  told_case : (v : ToldReply) (c : Cmd) (f : CmdStep) (k : Script CmdEnd) → after f ≡ k → Right (as_told v) (λ x. after (on_told c f v) ≡ k) (next (on_told c f v) ≡ more c)
-  told_case t.Told c f k h = h
-  told_case t.Wrong c f k h = refl
+  told_case : (v : Bool) (c : Cmd) (f : CmdStep) (k : Script CmdEnd) → after f ≡ k → Right (as_told v) (λ x. after (on_told c f v) ≡ k) (next (on_told c f v) ≡ more c)
+  told_case true c f k h = h
+  told_case false c f k h = refl
 
-  either_case : (v : DwordReply) (c : Cmd) (f : CmdStep) (k : Script CmdEnd) → after f ≡ k → Right (as_register v) (λ x. after (on_either c f v) ≡ k) (next (on_either c f v) ≡ more c)
-  either_case (d.Got x) c f k h = h
-  either_case d.Failed c f k h = h
-  either_case d.Wrong c f k h = refl
+  either_case : (v : Result ℕ NoReply) (c : Cmd) (f : CmdStep) (k : Script CmdEnd) → after f ≡ k → Right (as_register v) (λ x. after (on_either c f v) ≡ k) (next (on_either c f v) ≡ more c)
+  either_case (Ok x) c f k h = h
+  either_case (Err Failed) c f k h = h
+  either_case (Err Wrong) c f k h = refl
 
   pick_after : (b : Bool) (x y : CmdStep) (m n : Script CmdEnd) → after x ≡ m → after y ≡ n → after (pick b x y) ≡ pick b m n
   pick_after true x y m n h k = h

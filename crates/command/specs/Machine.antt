@@ -1,5 +1,5 @@
 -- The command machine: what it asks in each phase, what a step leads to, and which script is left.
-use Rattle.std.specs.Prelude.{ℕ, ◌+◌, ◌-◌, ◌*◌, ◌^◌, min, Bool, not, List, eqb, leb, ltb, get_or, drop}
+use Rattle.std.specs.Prelude.{ℕ, ◌+◌, ◌-◌, ◌*◌, ◌^◌, min, Bool, not, List, eqb, leb, ltb, get_or, drop, Result, Ok, Err, true, false}
 use Rattle.fields.specs.Outcome.{pick}
 use Rattle.hcr.specs.Words.{register, writes_of, go_word, pending_in, status_in, stall_of, waited_of, swap_of}
 use Rattle.hcr.specs.declared.Post.{Post}
@@ -10,12 +10,8 @@ use Rattle.pci.specs.Machine.{Next, more, ended}
 use Rattle.pci.specs.declared.Question.{Question}
 use Rattle.pci.specs.declared.Question.TheVariants.{RegRead, RegWrite, Stall, Fence}
 use Rattle.pci.specs.declared.Answer.{Answer}
-use Rattle.pci.specs.declared.DwordReply.{DwordReply}
-use Rattle.pci.specs.declared.DwordReply.TheVariants as d
-use Rattle.pci.specs.declared.DoneReply.{DoneReply}
-use Rattle.pci.specs.declared.DoneReply.TheVariants as o
-use Rattle.pci.specs.declared.ToldReply.{ToldReply}
-use Rattle.pci.specs.declared.ToldReply.TheVariants as t
+use Rattle.pci.specs.declared.NoReply.{NoReply}
+use Rattle.pci.specs.declared.NoReply.TheVariants.{Failed, Wrong}
 use Rattle.command.specs.declared.Catas.{Catas}
 use Rattle.command.specs.declared.Catas.TheVariants.{Known, Unknown}
 use Rattle.command.specs.declared.CmdResult.{CmdResult}
@@ -86,25 +82,25 @@ unfoldable pub cmd_asks : Cmd → Question
 cmd_asks c = phase_asks c c.phase
 
 -- what a step leads to: by what the answer says to the question's kind, with what was waited by then
-abbrev pub on_dword : Cmd → (us : ℕ) → (ℕ → CmdStep) → DwordReply → CmdStep
-on_dword c us f (d.Got v) = f (swap_of v)
-on_dword c us f d.Failed = end_of c (r.Bus us)
-on_dword c us f d.Wrong = More c
+abbrev pub on_dword : Cmd → (us : ℕ) → (ℕ → CmdStep) → Result ℕ NoReply → CmdStep
+on_dword c us f (Ok v) = f (swap_of v)
+on_dword c us f (Err Failed) = end_of c (r.Bus us)
+on_dword c us f (Err Wrong) = More c
 
-abbrev pub on_done : Cmd → CmdStep → DoneReply → CmdStep
-on_done c f o.Done = f
-on_done c f o.Failed = end_of c (r.Bus 0)
-on_done c f o.Wrong = More c
+abbrev pub on_done : Cmd → CmdStep → Result (Unit {0}) NoReply → CmdStep
+on_done c f (Ok _) = f
+on_done c f (Err Failed) = end_of c (r.Bus 0)
+on_done c f (Err Wrong) = More c
 
-abbrev pub on_told : Cmd → CmdStep → ToldReply → CmdStep
-on_told c f t.Told = f
-on_told c f t.Wrong = More c
+abbrev pub on_told : Cmd → CmdStep → Bool → CmdStep
+on_told c f true = f
+on_told c f false = More c
 
 -- the catastrophic read: good or failed, the command has timed out
-abbrev pub on_either : Cmd → CmdStep → DwordReply → CmdStep
-on_either c f (d.Got v) = f
-on_either c f d.Failed = f
-on_either c f d.Wrong = More c
+abbrev pub on_either : Cmd → CmdStep → Result ℕ NoReply → CmdStep
+on_either c f (Ok v) = f
+on_either c f (Err Failed) = f
+on_either c f (Err Wrong) = More c
 
 abbrev pub timeout_of : Cmd → Catas → CmdStep
 timeout_of c (Known b o) = go_on c p.Catas

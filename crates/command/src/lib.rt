@@ -12,7 +12,7 @@ ghost use Rattle.command.specs.declared.CmdResult.TheVariants.{Timeout};
 ghost use Rattle.command.specs.declared.Phase.TheVariants.{Low};
 
 use hcr::{Hcr, Post};
-use pci::{Answer, DoneReply, DwordReply, Question, ToldReply};
+use pci::{Answer, NoReply, Question};
 
 // Where the catastrophic error buffer is; unknown also where nothing is to be read after a Timeout.
 #[derive(Clone, Copy)]
@@ -172,14 +172,14 @@ impl Cmd {
         ensures { result ≡ on_dword self 0 (first_of self) (dword_of a) }
     {
         match pci::as_dword(a) {
-            DwordReply::Got(v) => {
+            Ok(v) => {
                 if hcr::pending(hcr::swap(v), self.toggle) {
                     return self.end(CmdResult::Busy);
                 }
                 self.go_on(Phase::Writing(0))
             }
-            DwordReply::Failed => self.end(CmdResult::Bus(0)),
-            DwordReply::Wrong => CmdStep::More(self),
+            Err(NoReply::Failed) => self.end(CmdResult::Bus(0)),
+            Err(NoReply::Wrong) => CmdStep::More(self),
         }
     }
 
@@ -188,14 +188,14 @@ impl Cmd {
         ensures { result ≡ on_done self (written_of self i) (done_of a) }
     {
         match pci::as_done(a) {
-            DoneReply::Done => {
+            Ok(()) => {
                 if i < 5 {
                     return self.go_on(Phase::Writing(i + 1));
                 }
                 self.go_on(Phase::Fence)
             }
-            DoneReply::Failed => self.end(CmdResult::Bus(0)),
-            DoneReply::Wrong => CmdStep::More(self),
+            Err(NoReply::Failed) => self.end(CmdResult::Bus(0)),
+            Err(NoReply::Wrong) => CmdStep::More(self),
         }
     }
 
@@ -203,10 +203,10 @@ impl Cmd {
     fn told(self, phase: Phase, a: Answer) -> CmdStep
         ensures { result ≡ on_told self (go_on self phase) (told_of a) }
     {
-        match pci::as_told(a) {
-            ToldReply::Told => self.go_on(phase),
-            ToldReply::Wrong => CmdStep::More(self),
+        if pci::as_told(a) {
+            return self.go_on(phase);
         }
+        CmdStep::More(self)
     }
 
     // The last word was written: the command is posted, and the toggle flips.
@@ -214,14 +214,14 @@ impl Cmd {
         ensures { result ≡ on_done self (More (posted self)) (done_of a) }
     {
         match pci::as_done(a) {
-            DoneReply::Done => CmdStep::More(Cmd {
+            Ok(()) => CmdStep::More(Cmd {
                 phase: Phase::Poll,
                 toggle: !self.toggle,
                 stalls: 0,
                 ..self
             }),
-            DoneReply::Failed => self.end(CmdResult::Bus(0)),
-            DoneReply::Wrong => CmdStep::More(self),
+            Err(NoReply::Failed) => self.end(CmdResult::Bus(0)),
+            Err(NoReply::Wrong) => CmdStep::More(self),
         }
     }
 
@@ -252,9 +252,9 @@ impl Cmd {
         ensures { result ≡ on_dword self (waited_of self.stalls) (polled_of self) (dword_of a) }
     {
         match pci::as_dword(a) {
-            DwordReply::Got(v) => self.seen(hcr::swap(v)),
-            DwordReply::Failed => self.end(CmdResult::Bus(hcr::waited(self.stalls))),
-            DwordReply::Wrong => CmdStep::More(self),
+            Ok(v) => self.seen(hcr::swap(v)),
+            Err(NoReply::Failed) => self.end(CmdResult::Bus(hcr::waited(self.stalls))),
+            Err(NoReply::Wrong) => CmdStep::More(self),
         }
     }
 
@@ -262,14 +262,14 @@ impl Cmd {
     fn waited(self, a: Answer) -> CmdStep
         ensures { result ≡ on_told self (More (stalled_by self (bump self.stalls))) (told_of a) }
     {
-        match pci::as_told(a) {
-            ToldReply::Told => CmdStep::More(Cmd {
+        if pci::as_told(a) {
+            return CmdStep::More(Cmd {
                 phase: Phase::Poll,
                 stalls: one_more(self.stalls),
                 ..self
-            }),
-            ToldReply::Wrong => CmdStep::More(self),
+            });
         }
+        CmdStep::More(self)
     }
 
     // The status of a command that has ended.
@@ -277,15 +277,15 @@ impl Cmd {
         ensures { result ≡ on_dword self (waited_of self.stalls) (λ v. status_of self (status_in v)) (dword_of a) }
     {
         match pci::as_dword(a) {
-            DwordReply::Got(v) => {
+            Ok(v) => {
                 let status = hcr::status(hcr::swap(v));
                 if status == 0 {
                     return self.go_on(Phase::High);
                 }
                 self.end(CmdResult::Status(status, hcr::waited(self.stalls)))
             }
-            DwordReply::Failed => self.end(CmdResult::Bus(hcr::waited(self.stalls))),
-            DwordReply::Wrong => CmdStep::More(self),
+            Err(NoReply::Failed) => self.end(CmdResult::Bus(hcr::waited(self.stalls))),
+            Err(NoReply::Wrong) => CmdStep::More(self),
         }
     }
 
@@ -294,9 +294,9 @@ impl Cmd {
         ensures { result ≡ on_dword self (waited_of self.stalls) (λ v. go_on self (Low v)) (dword_of a) }
     {
         match pci::as_dword(a) {
-            DwordReply::Got(v) => self.go_on(Phase::Low(hcr::swap(v))),
-            DwordReply::Failed => self.end(CmdResult::Bus(hcr::waited(self.stalls))),
-            DwordReply::Wrong => CmdStep::More(self),
+            Ok(v) => self.go_on(Phase::Low(hcr::swap(v))),
+            Err(NoReply::Failed) => self.end(CmdResult::Bus(hcr::waited(self.stalls))),
+            Err(NoReply::Wrong) => CmdStep::More(self),
         }
     }
 
@@ -305,12 +305,9 @@ impl Cmd {
         ensures { result ≡ on_dword self (waited_of self.stalls) (done_with self high) (dword_of a) }
     {
         match pci::as_dword(a) {
-            DwordReply::Got(v) => self.end(CmdResult::Done(
-                join(high, hcr::swap(v)),
-                hcr::waited(self.stalls),
-            )),
-            DwordReply::Failed => self.end(CmdResult::Bus(hcr::waited(self.stalls))),
-            DwordReply::Wrong => CmdStep::More(self),
+            Ok(v) => self.end(CmdResult::Done(join(high, hcr::swap(v)), hcr::waited(self.stalls))),
+            Err(NoReply::Failed) => self.end(CmdResult::Bus(hcr::waited(self.stalls))),
+            Err(NoReply::Wrong) => CmdStep::More(self),
         }
     }
 
@@ -319,9 +316,8 @@ impl Cmd {
         ensures { result ≡ on_either self (end_of self (Timeout (waited_of self.stalls))) (dword_of a) }
     {
         match pci::as_dword(a) {
-            DwordReply::Got(_) => self.end(CmdResult::Timeout(hcr::waited(self.stalls))),
-            DwordReply::Failed => self.end(CmdResult::Timeout(hcr::waited(self.stalls))),
-            DwordReply::Wrong => CmdStep::More(self),
+            Ok(_) | Err(NoReply::Failed) => self.end(CmdResult::Timeout(hcr::waited(self.stalls))),
+            Err(NoReply::Wrong) => CmdStep::More(self),
         }
     }
 

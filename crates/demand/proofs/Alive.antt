@@ -7,6 +7,7 @@ use mathlib.Core.Path.{◌≡◌, refl, sym, ◌∙◌, subst}
 use lib.Dec.{eqb, ltb, leb}
 use borrow.Author.Tests.{eq-eqb, leb-true, le-leb}
 use lib.ListN.{length}
+use Rattle.std.specs.Prelude.{Result, Ok, Err}
 use Rattle.fields.specs.Outcome.{Outcome, value, refused, pick}
 use Rattle.dma.specs.Buffers.{pages_for}
 use Rattle.dma.specs.PageList.{listed_of}
@@ -16,8 +17,8 @@ use Rattle.hcr.specs.Words.{is_reserved}
 use Rattle.pci.specs.declared.Refusal.{Refusal}
 use Rattle.pci.specs.declared.Answer.{Answer}
 use Rattle.pci.specs.Views.{dword_of}
-use Rattle.pci.specs.declared.DwordReply.{DwordReply}
-use Rattle.pci.specs.declared.DwordReply.TheVariants as dw
+use Rattle.pci.specs.declared.NoReply.{NoReply}
+use Rattle.pci.specs.declared.NoReply.TheVariants.{Failed, Wrong}
 use Rattle.command.specs.Machine.{cmd_step_of}
 use Rattle.command.specs.declared.CmdResult.{CmdResult}
 use Rattle.command.specs.declared.CmdStep.{CmdStep}
@@ -169,10 +170,10 @@ bar_going : (v : Work) (x : FindBar) (y : Option Found) → IsGoing (bar_on v x 
 bar_going v x None q = refl
 bar_going v x (Some z) q = absurd q
 
-look_going : (v : Work) (x : DwordReply) → IsGoing (look_step v x).ending → is_resting (look_step v x).work.task ≡ false
-look_going v (dw.Got x) q = absurd q
-look_going v dw.Failed q = absurd q
-look_going v dw.Wrong q = refl
+look_going : (v : Work) (x : Result ℕ NoReply) → IsGoing (look_step v x).ending → is_resting (look_step v x).work.task ≡ false
+look_going v (Ok x) q = absurd q
+look_going v (Err Failed) q = absurd q
+look_going v (Err Wrong) q = refl
 
 cmd_going : (v : Work) (x : CmdStep) → IsGoing (cmd_work v x).ending → is_resting (cmd_work v x).work.task ≡ false
 cmd_going v (cs.More x) q = refl

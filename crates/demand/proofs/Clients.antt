@@ -5,16 +5,14 @@ use mathlib.Core.List.{List}
 use mathlib.Core.Option.{none}
 use mathlib.Core.Path.{◌≡◌, refl, sym, subst, ap, ◌∙◌}
 use lib.Dec.{leb, ltb}
+use Rattle.std.specs.Prelude.{Result, Ok, Err}
 use Rattle.fields.specs.Outcome.{Outcome, value, refused, pick}
 use Rattle.dma.specs.Buffers.{pages_for}
 use Rattle.hcr.specs.Words.{is_reserved}
 use Rattle.pci.specs.declared.Answer.{Answer}
 use Rattle.pci.specs.declared.Question.{Question}
 use Rattle.pci.specs.declared.Question.TheVariants as qv
-use Rattle.pci.specs.declared.HandleReply.{HandleReply}
-use Rattle.pci.specs.declared.HandleReply.TheVariants as hr
-use Rattle.pci.specs.declared.MapReply.{MapReply}
-use Rattle.pci.specs.declared.MapReply.TheVariants as mr
+use Rattle.pci.specs.declared.NoReply.{NoReply}
 use Rattle.pci.specs.Views.{granted_of, mapped_of}
 use Rattle.session.specs.Course.{neither, slot}
 use Rattle.session.specs.declared.Slot.{Slot}
@@ -145,16 +143,14 @@ answers_kept i o l (qv.Resource k) a b = kept_all b
 answers_kept i o l (qv.Stall u) a b = kept_all b
 answers_kept i o l (qv.Allocate n) a b = by (granted_of a)
   where
-    by : (r : HandleReply) → Kept b (granted_books i o n r b)
-    by (hr.Got k) = put_kept i (bare o k n) b l
-    by hr.Failed = kept_all b
-    by hr.Wrong = kept_all b
+    by : (r : Result ℕ NoReply) → Kept b (granted_books i o n r b)
+    by (Ok k) = put_kept i (bare o k n) b l
+    by (Err _) = kept_all b
 answers_kept i o l (qv.Map k n) a b = by (mapped_of a)
   where
-    by : (r : MapReply) → Kept b (mapped_books i r b)
-    by (mr.Got x y) = put_kept i (mapped_at (slot_at b.lists.slots i) x) b l
-    by mr.Failed = kept_all b
-    by mr.Wrong = kept_all b
+    by : (r : Result (ℕ × ℕ) NoReply) → Kept b (mapped_books i r b)
+    by (Ok (x, y)) = put_kept i (mapped_at (slot_at b.lists.slots i) x) b l
+    by (Err _) = kept_all b
 answers_kept i o l (qv.Unmap k) a b = put_kept i (unmapped_from (slot_at b.lists.slots i)) b l
 answers_kept i o l (qv.Free k n) a b = put_kept i no_slot b l
 answers_kept i o l qv.Fence a b = kept_all b

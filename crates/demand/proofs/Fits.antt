@@ -11,6 +11,7 @@ use mathlib.Core.Path.{◌≡◌, refl, sym, ◌∙◌, ap, subst}
 use lib.Dec.{eqb, leb, ltb, lit≤}
 use lib.ListN.{length, set, replicate, length-set}
 use borrow.Author.Tests.{ltb-true, ltb-false, leb-true, leb-false, eqb-true, eqb-false, lt-ltb, le-ltb}
+use Rattle.std.specs.Prelude.{Result, Ok, Err}
 use Rattle.fields.specs.Outcome.{Outcome, value, refused, pick}
 use Rattle.dma.specs.Buffers.{pages_for, accept_at}
 use Rattle.dma.specs.PageList.{listed_of}
@@ -18,18 +19,14 @@ use Rattle.dma.specs.declared.Cutter.{Cutter}
 use Rattle.dma.specs.declared.Listed.{Listed}
 use Rattle.hcr.specs.Words.{is_reserved}
 use Rattle.pci.specs.Script.{Ask, shown}
-use Rattle.pci.specs.Suits.{is_done as isDoneReply, suits_of}
+use Rattle.pci.specs.Suits.{is_kind, suits_of}
 use Rattle.pci.specs.Views.{done_of, granted_of, mapped_of}
 use Rattle.pci.specs.declared.Refusal.{Refusal}
 use Rattle.pci.specs.declared.Refusal.TheVariants as x
 use Rattle.pci.specs.declared.Answer.{Answer}
 use Rattle.pci.specs.declared.Question.{Question}
-use Rattle.pci.specs.declared.DoneReply.{DoneReply}
-use Rattle.pci.specs.declared.DoneReply.TheVariants as o
-use Rattle.pci.specs.declared.HandleReply.{HandleReply}
-use Rattle.pci.specs.declared.HandleReply.TheVariants as hr
-use Rattle.pci.specs.declared.MapReply.{MapReply}
-use Rattle.pci.specs.declared.MapReply.TheVariants as mr
+use Rattle.pci.specs.declared.NoReply.{NoReply}
+use Rattle.pci.specs.declared.NoReply.TheVariants.{Failed, Wrong}
 use Rattle.command.specs.declared.CmdResult.{CmdResult}
 use Rattle.reset.specs.Reset.{is_good}
 use Rattle.reset.specs.declared.Reset.{Reset}
@@ -346,13 +343,13 @@ module _ (i v d : ℕ) (bk : Books) (a₁ : i < 82) (made : rank i < d) (room : 
   has h y z e q = subst (Has-handle h) (sym q) e
 
   module _ (k : Work) (y : Making) where
-    granted : (r : HandleReply) → slot_at ls i ≡ no_slot → y.phase ≡ mp.Allocate → Goes (slot i v) d (make_work k (allocated y r)) bk.lists (granted_books i v (pages_in y) r bk).lists
-    granted (hr.Got h) e q = put (bare v h (pages_in y)) _ (λ at. (a₁, made, has h _ (bare v h (pages_in y)) (refl, refl) at))
-    granted hr.Failed e q = stay _ e
-    granted hr.Wrong e q = stay _ (a₁, made, subst (λ (z : MakePhase). InPhase i z ls) (sym q) e)
+    granted : (r : Result ℕ NoReply) → slot_at ls i ≡ no_slot → y.phase ≡ mp.Allocate → Goes (slot i v) d (make_work k (allocated y r)) bk.lists (granted_books i v (pages_in y) r bk).lists
+    granted (Ok h) e q = put (bare v h (pages_in y)) _ (λ at. (a₁, made, has h _ (bare v h (pages_in y)) (refl, refl) at))
+    granted (Err Failed) e q = stay _ e
+    granted (Err Wrong) e q = stay _ (a₁, made, subst (λ (z : MakePhase). InPhase i z ls) (sym q) e)
 
-    placed : (h : ℕ) (r : MapReply) → Has-handle h (slot_at ls i) → y.phase ≡ mp.Map h → Goes (slot i v) d (make_work k (map_step y h r)) bk.lists (mapped_books i r bk).lists
-    placed h (mr.Got address bytes) e q = put (mapped_at (slot_at ls i) address) _ (λ at. spot at (accept_at address (pages_in y)))
+    placed : (h : ℕ) (r : Result (ℕ × ℕ) NoReply) → Has-handle h (slot_at ls i) → y.phase ≡ mp.Map h → Goes (slot i v) d (make_work k (map_step y h r)) bk.lists (mapped_books i r bk).lists
+    placed h (Ok (address, bytes)) e q = put (mapped_at (slot_at ls i) address) _ (λ at. spot at (accept_at address (pages_in y)))
       where
         spot : slot_at (set ls i (mapped_at (slot_at ls i) address)) i ≡ mapped_at (slot_at ls i) address → (w₁ : Outcome (Unit {0}))
             → (let z = make_work k (by_outcome w₁ (λ u₁. pick (eqb bytes (pages_in y * 4096)) (ms.Ended (m.Ready (record { handle = h; dev = address; pages = pages_in y }))) (ms.More (in_phase y (mp.Unmap h fl.Memory)))) (ms.More (in_phase y (mp.Unmap h fl.Address)))) in
@@ -364,18 +361,18 @@ module _ (i v d : ℕ) (bk : Books) (a₁ : i < 82) (made : rank i < d) (room : 
             by true = tt
             by false = (a₁, made, has h _ (mapped_at (slot_at ls i) address) e at)
         spot at (refused j vs) = (a₁, made, has h _ (mapped_at (slot_at ls i) address) e at)
-    placed h mr.Failed e q = stay _ (a₁, made, e)
-    placed h mr.Wrong e q = stay _ (a₁, made, subst (λ (z : MakePhase). InPhase i z ls) (sym q) e)
+    placed h (Err Failed) e q = stay _ (a₁, made, e)
+    placed h (Err Wrong) e q = stay _ (a₁, made, subst (λ (z : MakePhase). InPhase i z ls) (sym q) e)
 
-    unplaced : (h : ℕ) (x : _) (r : DoneReply) → Has-handle h (slot_at ls i) → y.phase ≡ mp.Unmap h x → Goes (slot i v) d (make_work k (unmapped y h x r)) bk.lists (puts i (unmapped_from (slot_at ls i)) bk).lists
-    unplaced h x o.Done e q = put (unmapped_from (slot_at ls i)) _ (λ at. (a₁, made, has h _ (unmapped_from (slot_at ls i)) e at))
-    unplaced h x o.Failed e q = put (unmapped_from (slot_at ls i)) _ (λ at. (a₁, made, has h _ (unmapped_from (slot_at ls i)) e at))
-    unplaced h x o.Wrong e q = put (unmapped_from (slot_at ls i)) _ (λ at. (a₁, made, subst (λ (z : MakePhase). InPhase i z (set ls i (unmapped_from (slot_at ls i)))) (sym q) (has h _ (unmapped_from (slot_at ls i)) e at)))
+    unplaced : (h : ℕ) (x : _) (r : Result (Unit {0}) NoReply) → Has-handle h (slot_at ls i) → y.phase ≡ mp.Unmap h x → Goes (slot i v) d (make_work k (unmapped y h x r)) bk.lists (puts i (unmapped_from (slot_at ls i)) bk).lists
+    unplaced h x (Ok _) e q = put (unmapped_from (slot_at ls i)) _ (λ at. (a₁, made, has h _ (unmapped_from (slot_at ls i)) e at))
+    unplaced h x (Err Failed) e q = put (unmapped_from (slot_at ls i)) _ (λ at. (a₁, made, has h _ (unmapped_from (slot_at ls i)) e at))
+    unplaced h x (Err Wrong) e q = put (unmapped_from (slot_at ls i)) _ (λ at. (a₁, made, subst (λ (z : MakePhase). InPhase i z (set ls i (unmapped_from (slot_at ls i)))) (sym q) (has h _ (unmapped_from (slot_at ls i)) e at)))
 
-    given : (x : _) (r : DoneReply) → isDoneReply r ≡ true → Goes (slot i v) d (make_work k (freed y x r)) bk.lists (puts i no_slot bk).lists
-    given x o.Done s = put no_slot _ (λ at. at)
-    given x o.Failed s = put no_slot _ (λ at. at)
-    given x o.Wrong s = absurd (false≢true s)
+    given : (x : _) (r : Result (Unit {0}) NoReply) → is_kind r ≡ true → Goes (slot i v) d (make_work k (freed y x r)) bk.lists (puts i no_slot bk).lists
+    given x (Ok _) s = put no_slot _ (λ at. at)
+    given x (Err Failed) s = put no_slot _ (λ at. at)
+    given x (Err Wrong) s = absurd (false≢true s)
 
     made-goes : (z : Answer) (x : MakePhase) → y.phase ≡ x → InPhase i x ls → suits_of (make_asks_at (pages_in y) x) z ≡ true → Goes (slot i v) d (make_work k (make_step_at y z x)) bk.lists (answers_by i v (make_asks_at (pages_in y) x) z bk).lists
     made-goes z mp.Allocate q h s = granted (granted_of z) h q
@@ -387,16 +384,16 @@ module _ (i v d : ℕ) (bk : Books) (a₁ : i < 82) (made : rank i < d) (room : 
     freed-goes : (z : Answer) (x : FreePhase) → suits_of (free_asks_at y.handle y.pages x) z ≡ true → Goes (slot i v) d (free_work k (free_step_at y (done_of z) x)) bk.lists (answers_by i v (free_asks_at y.handle y.pages x) z bk).lists
     freed-goes z fp.Unmap s = by (done_of z)
       where
-        by : (r : DoneReply) → Goes (slot i v) d (free_work k (free_step_at y r fp.Unmap)) bk.lists (puts i (unmapped_from (slot_at ls i)) bk).lists
-        by o.Done = put (unmapped_from (slot_at ls i)) _ (λ at. (a₁, made, has y.handle _ (unmapped_from (slot_at ls i)) h at))
-        by o.Failed = put (unmapped_from (slot_at ls i)) _ (λ at. (a₁, made, has y.handle _ (unmapped_from (slot_at ls i)) h at))
-        by o.Wrong = put (unmapped_from (slot_at ls i)) _ (λ at. (a₁, made, has y.handle _ (unmapped_from (slot_at ls i)) h at))
+        by : (r : Result (Unit {0}) NoReply) → Goes (slot i v) d (free_work k (free_step_at y r fp.Unmap)) bk.lists (puts i (unmapped_from (slot_at ls i)) bk).lists
+        by (Ok _) = put (unmapped_from (slot_at ls i)) _ (λ at. (a₁, made, has y.handle _ (unmapped_from (slot_at ls i)) h at))
+        by (Err Failed) = put (unmapped_from (slot_at ls i)) _ (λ at. (a₁, made, has y.handle _ (unmapped_from (slot_at ls i)) h at))
+        by (Err Wrong) = put (unmapped_from (slot_at ls i)) _ (λ at. (a₁, made, has y.handle _ (unmapped_from (slot_at ls i)) h at))
     freed-goes z fp.Free s = by (done_of z) s
       where
-        by : (r : DoneReply) → isDoneReply r ≡ true → Goes (slot i v) d (free_work k (free_step_at y r fp.Free)) bk.lists (puts i no_slot bk).lists
-        by o.Done e = put no_slot _ (λ at. at)
-        by o.Failed e = put no_slot _ (λ at. at)
-        by o.Wrong e = absurd (false≢true e)
+        by : (r : Result (Unit {0}) NoReply) → is_kind r ≡ true → Goes (slot i v) d (free_work k (free_step_at y r fp.Free)) bk.lists (puts i no_slot bk).lists
+        by (Ok _) e = put no_slot _ (λ at. at)
+        by (Err Failed) e = put no_slot _ (λ at. at)
+        by (Err Wrong) e = absurd (false≢true e)
 
   handled : (k : Work) (z : Answer) (res : List ℕ) (y : Task) → InHand i y ls → suits_of (task_asks k.reset k.find y) z ≡ true → Goes (slot i v) d (task_step k z res y) bk.lists (answers_by i v (task_asks k.reset k.find y) z bk).lists
   handled k z res t.Rest h s = absurd h

@@ -5,18 +5,15 @@ use mathlib.Core.List.{List, [], ◌∷◌}
 use mathlib.Core.Option.{Option, some, none, some-injective, none-ne-some}
 use mathlib.Core.Path.{◌≡◌, refl, sym, ◌∙◌, ap, subst}
 use lib.Dec.{eqb}
+use Rattle.std.specs.Prelude.{Result, Ok, Err}
 use Rattle.fields.specs.Outcome.{Outcome, value, refused, pick}
 use Rattle.dma.specs.Buffers.{is_page, ends_within}
 use Rattle.dma.specs.declared.Buffer.{Buffer}
-use Rattle.pci.specs.Script.{Ask, Reply, Bus, good, failed, Spot, reply_of, as_handle, as_spot, as_done, allocate, mapped, unmap, free}
+use Rattle.pci.specs.Script.{Ask, Reply, Bus, good, failed, Spot, reply_of, as_bus, as_spot, allocate, mapped, unmap, free}
 use Rattle.pci.specs.Views.{done_of, granted_of, mapped_of}
 use Rattle.pci.specs.declared.Answer.{Answer}
-use Rattle.pci.specs.declared.DoneReply.{DoneReply}
-use Rattle.pci.specs.declared.DoneReply.TheVariants as o
-use Rattle.pci.specs.declared.HandleReply.{HandleReply}
-use Rattle.pci.specs.declared.HandleReply.TheVariants as h
-use Rattle.pci.specs.declared.MapReply.{MapReply}
-use Rattle.pci.specs.declared.MapReply.TheVariants as d
+use Rattle.pci.specs.declared.NoReply.{NoReply}
+use Rattle.pci.specs.declared.NoReply.TheVariants.{Failed, Wrong}
 use Rattle.reset.specs.declared.Reset.{Reset}
 use Rattle.buffer.specs.Buffer.{by_outcome}
 use Rattle.buffer.specs.Steps.{pages_in, in_phase, make_asks_at, make_step_at, allocated, map_step, unmapped, freed}
@@ -94,12 +91,12 @@ unmap_usable none = refl
 unmap_usable (some x) = refl
 
 module _ (w : Work) (y : Making) (k l : Host) where
-  granted : (x : HandleReply) (r : Bus ℕ) → as_handle x ≡ some r → HostAllocates k (pages_in y) r l → Makes (make_work w (allocated y x)).work.task l
-  granted (h.Got b) r e s =
+  granted : (x : Result ℕ NoReply) (r : Bus ℕ) → as_bus x ≡ some r → HostAllocates k (pages_in y) r l → Makes (make_work w (allocated y x)).work.task l
+  granted (Ok b) r e s =
       let z = subst (λ (q : Bus ℕ). HostAllocates k (pages_in y) q l) (sym (some-injective (good b) r e)) s in
       ap (λ (q : Host). q.hand b) z.1 ∙ put_same k.hand b (some (record { pages = pages_in y; mapped = []; unmapped = [] })) b refl
-  granted h.Failed r e s = tt
-  granted h.Wrong r e s = absurd (none-ne-some r e)
+  granted (Err Failed) r e s = tt
+  granted (Err Wrong) r e s = absurd (none-ne-some r e)
 
   -- a good map: usable, or it is unmapped
   spot_made : (b : ℕ) (u : Buffer) (v z : Bool) → was_usable (l.hand b) ≡ pick (v && z) true false
@@ -108,26 +105,26 @@ module _ (w : Work) (y : Making) (k l : Host) where
   spot_made b u true false e = e
   spot_made b u false z e = e
 
-  placed : (b : ℕ) (x : MapReply) (r : Bus Spot) → k.hand b ≡ some (record { pages = pages_in y; mapped = []; unmapped = [] }) → as_spot x ≡ some r → HostMaps k b r l → Makes (make_work w (map_step y b x)).work.task l
-  placed b (d.Got address bytes) r q e s =
+  placed : (b : ℕ) (x : Result (ℕ × ℕ) NoReply) (r : Bus Spot) → k.hand b ≡ some (record { pages = pages_in y; mapped = []; unmapped = [] }) → as_spot x ≡ some r → HostMaps k b r l → Makes (make_work w (map_step y b x)).work.task l
+  placed b (Ok (address, bytes)) r q e s =
       let spot : Spot = record { address = address; bytes = bytes } in
       let z = subst (λ (v : Bus Spot). HostMaps k b v l) (sym (some-injective (good spot) r e)) s in
       spot_made b _ (is_page address && ends_within address (pages_in y * 4096)) (eqb bytes (pages_in y * 4096))
       (ap (λ (v : Host). was_usable (v.hand b)) z.1 ∙ ap was_usable (put_same k.hand b (map_at spot (k.hand b)) b refl ∙ ap (map_at spot) q))
-  placed b d.Failed r q e s =
+  placed b (Err Failed) r q e s =
       let z = subst (λ (v : Bus Spot). HostMaps k b v l) (sym (some-injective failed r e)) s in
       ap (λ (v : Host). was_usable (v.hand b)) z ∙ ap was_usable q
-  placed b d.Wrong r q e s = absurd (none-ne-some r e)
+  placed b (Err Wrong) r q e s = absurd (none-ne-some r e)
 
-  unplaced : (b : ℕ) (u : Fault) (x : DoneReply) (r : Bus (Unit {0})) → was_usable (k.hand b) ≡ false → as_done x ≡ some r → l ≡ unmap_in k b → Makes (make_work w (unmapped y b u x)).work.task l
-  unplaced b u o.Done r q e s = ap (λ (v : Host). was_usable (v.hand b)) s ∙ ap was_usable (put_same k.hand b (unmap_all (k.hand b)) b refl) ∙ unmap_usable (k.hand b) ∙ q
-  unplaced b u o.Failed r q e s = ap (λ (v : Host). was_usable (v.hand b)) s ∙ ap was_usable (put_same k.hand b (unmap_all (k.hand b)) b refl) ∙ unmap_usable (k.hand b) ∙ q
-  unplaced b u o.Wrong r q e s = absurd (none-ne-some r e)
+  unplaced : (b : ℕ) (u : Fault) (x : Result (Unit {0}) NoReply) (r : Bus (Unit {0})) → was_usable (k.hand b) ≡ false → as_bus x ≡ some r → l ≡ unmap_in k b → Makes (make_work w (unmapped y b u x)).work.task l
+  unplaced b u (Ok _) r q e s = ap (λ (v : Host). was_usable (v.hand b)) s ∙ ap was_usable (put_same k.hand b (unmap_all (k.hand b)) b refl) ∙ unmap_usable (k.hand b) ∙ q
+  unplaced b u (Err Failed) r q e s = ap (λ (v : Host). was_usable (v.hand b)) s ∙ ap was_usable (put_same k.hand b (unmap_all (k.hand b)) b refl) ∙ unmap_usable (k.hand b) ∙ q
+  unplaced b u (Err Wrong) r q e s = absurd (none-ne-some r e)
 
-  given : (u : Fault) (x : DoneReply) (r : Bus (Unit {0})) → as_done x ≡ some r → Makes (make_work w (freed y u x)).work.task l
-  given u o.Done r e = tt
-  given u o.Failed r e = tt
-  given u o.Wrong r e = absurd (none-ne-some r e)
+  given : (u : Fault) (x : Result (Unit {0}) NoReply) (r : Bus (Unit {0})) → as_bus x ≡ some r → Makes (make_work w (freed y u x)).work.task l
+  given u (Ok _) r e = tt
+  given u (Err Failed) r e = tt
+  given u (Err Wrong) r e = absurd (none-ne-some r e)
 
 -- ONE ANSWER in an opening
 abbrev pub Unasked : Host → Host → Answer → List ℕ → Task → Ask → Type 0

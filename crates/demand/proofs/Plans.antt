@@ -6,6 +6,7 @@ use mathlib.Core.List.{List}
 use mathlib.Core.Path.{◌≡◌}
 use lib.Dec.{eqb, leb, ltb}
 use lib.ListN.{length}
+use Rattle.std.specs.Prelude.{Result, Ok, Err}
 use Rattle.fields.specs.Outcome.{Outcome, value, refused, pick}
 use Rattle.dma.specs.Buffers.{pages_for}
 use Rattle.dma.specs.PageList.{listed_of}
@@ -16,8 +17,8 @@ use Rattle.hcr.specs.Words.{is_reserved}
 use Rattle.pci.specs.declared.Refusal.{Refusal}
 use Rattle.pci.specs.declared.Answer.{Answer}
 use Rattle.pci.specs.Views.{dword_of}
-use Rattle.pci.specs.declared.DwordReply.{DwordReply}
-use Rattle.pci.specs.declared.DwordReply.TheVariants as dw
+use Rattle.pci.specs.declared.NoReply.{NoReply}
+use Rattle.pci.specs.declared.NoReply.TheVariants.{Failed, Wrong}
 use Rattle.command.specs.Machine.{cmd_step_of}
 use Rattle.command.specs.declared.CmdResult.{CmdResult}
 use Rattle.command.specs.declared.CmdStep.{CmdStep}
@@ -227,10 +228,10 @@ bar_going : (v : Work) (x : FindBar) (y : Option Found) → NoHost (bar_on v x y
 bar_going v x None = tt
 bar_going v x (Some z) = tt
 
-look_going : (v : Work) (x : DwordReply) → NoHost (look_step v x).work.task
-look_going v (dw.Got x) = tt
-look_going v dw.Failed = tt
-look_going v dw.Wrong = tt
+look_going : (v : Work) (x : Result ℕ NoReply) → NoHost (look_step v x).work.task
+look_going v (Ok x) = tt
+look_going v (Err Failed) = tt
+look_going v (Err Wrong) = tt
 
 cmd_going : (v : Work) (x : CmdStep) → NoHost (cmd_work v x).work.task
 cmd_going v (cs.More x) = tt

@@ -3,13 +3,11 @@ use Prim.Native.Nat.{ℕ, ◌≤◌}
 use mathlib.Core.Path.{◌≡◌, refl, ap, sym, subst, ◌∙◌}
 use mathlib.Core.List.{List}
 use lib.ListN.{length}
+use Rattle.std.specs.Prelude.{Result, Ok, Err}
 use Rattle.fields.specs.Outcome.{value}
 use Rattle.pci.specs.Views.{granted_of, mapped_of}
 use Rattle.pci.specs.declared.Answer.{Answer}
-use Rattle.pci.specs.declared.HandleReply.{HandleReply}
-use Rattle.pci.specs.declared.HandleReply.TheVariants as h
-use Rattle.pci.specs.declared.MapReply.{MapReply}
-use Rattle.pci.specs.declared.MapReply.TheVariants as m
+use Rattle.pci.specs.declared.NoReply.{NoReply}
 use Rattle.pci.specs.declared.Question.{Question}
 use Rattle.pci.specs.declared.Question.TheVariants as q
 use Rattle.words.specs.Places.{state_bytes}
@@ -41,15 +39,13 @@ use Rattle.fw_step.specs.declared.Took.{Took}
 abbrev slots_only : Books → Books → Books
 slots_only b d = books b.wire (record { slots = d.lists.slots; ranges = b.lists.ranges; lends = b.lists.lends }) b.started b.original
 
-granted_only : (i w n : ℕ) (y : HandleReply) (b : Books) → granted_books i w n y b ≡ slots_only b (granted_books i w n y b)
-granted_only i w n (h.Got k) b = refl
-granted_only i w n h.Failed b = refl
-granted_only i w n h.Wrong b = refl
+granted_only : (i w n : ℕ) (y : Result ℕ NoReply) (b : Books) → granted_books i w n y b ≡ slots_only b (granted_books i w n y b)
+granted_only i w n (Ok k) b = refl
+granted_only i w n (Err _) b = refl
 
-mapped_only : (i : ℕ) (y : MapReply) (b : Books) → mapped_books i y b ≡ slots_only b (mapped_books i y b)
-mapped_only i (m.Got x n) b = refl
-mapped_only i m.Failed b = refl
-mapped_only i m.Wrong b = refl
+mapped_only : (i : ℕ) (y : Result (ℕ × ℕ) NoReply) (b : Books) → mapped_books i y b ≡ slots_only b (mapped_books i y b)
+mapped_only i (Ok (x, n)) b = refl
+mapped_only i (Err _) b = refl
 
 answers_only : (i w : ℕ) (y : Question) (a : Answer) (b : Books) → answers_by i w y a b ≡ slots_only b (answers_by i w y a b)
 answers_only i w (q.ConfigRead16 o) a b = refl

@@ -6,8 +6,9 @@ use mathlib.Core.Option.{Option, some, none}
 use mathlib.Core.Path.{◌≡◌, refl, ap, sym, subst, ◌∙◌}
 use lib.Dec.{ltb}
 use lib.ListN.{length}
+use Rattle.std.specs.Prelude.{Result, Ok, Err}
 use Rattle.fields.specs.Outcome.{pick}
-use Rattle.pci.specs.Script.{Script, ◌>>=◌, Ask, Reply, shown, reply_of, as_handle, as_spot, config_read16, config_read32, config_write16, config_write32, read, write, attributes, resource, stall, allocate, mapped, unmap, free, fence}
+use Rattle.pci.specs.Script.{Script, ◌>>=◌, Ask, Reply, shown, reply_of, as_bus, as_spot, config_read16, config_read32, config_write16, config_write32, read, write, attributes, resource, stall, allocate, mapped, unmap, free, fence}
 use Rattle.pci.specs.Script as sc
 use Rattle.pci.specs.Views.{granted_of, mapped_of}
 use Rattle.pci.specs.Machine.{Right, rest}
@@ -15,10 +16,8 @@ use Rattle.pci.specs.Machine as pm
 use Rattle.pci.proofs.Within.{right_map}
 use Rattle.pci.specs.declared.Question.{Question}
 use Rattle.pci.specs.declared.Question.TheVariants as q
-use Rattle.pci.specs.declared.HandleReply.{HandleReply}
-use Rattle.pci.specs.declared.HandleReply.TheVariants as hr
-use Rattle.pci.specs.declared.MapReply.{MapReply}
-use Rattle.pci.specs.declared.MapReply.TheVariants as mr
+use Rattle.pci.specs.declared.NoReply.{NoReply}
+use Rattle.pci.specs.declared.NoReply.TheVariants.{Failed, Wrong}
 use Rattle.pci.specs.declared.Answer.{Answer}
 use Rattle.pci.specs.declared.Answer.TheVariants as an
 use Rattle.hcr.specs.declared.Post.{Post}
@@ -117,15 +116,15 @@ right_any : {A : Type 0} (x : Option A) (f : A → Type 0) → ((a : A) → f a)
 right_any none f h = tt
 right_any (some a) f h = h a
 
-granted_right : (i w n : ℕ) (r : HandleReply) (b : Books) → Right (as_handle r) (λ z. granted_books i w n r b ≡ books_by i w (allocate n) z b) (Unit {0})
-granted_right i w n (hr.Got k) b = refl
-granted_right i w n hr.Failed b = refl
-granted_right i w n hr.Wrong b = tt
+granted_right : (i w n : ℕ) (r : Result ℕ NoReply) (b : Books) → Right (as_bus r) (λ z. granted_books i w n r b ≡ books_by i w (allocate n) z b) (Unit {0})
+granted_right i w n (Ok k) b = refl
+granted_right i w n (Err Failed) b = refl
+granted_right i w n (Err Wrong) b = tt
 
-mapped_right : (i w k n : ℕ) (r : MapReply) (b : Books) → Right (as_spot r) (λ z. mapped_books i r b ≡ books_by i w (mapped k n) z b) (Unit {0})
-mapped_right i w k n (mr.Got x y) b = refl
-mapped_right i w k n mr.Failed b = refl
-mapped_right i w k n mr.Wrong b = tt
+mapped_right : (i w k n : ℕ) (r : Result (ℕ × ℕ) NoReply) (b : Books) → Right (as_spot r) (λ z. mapped_books i r b ≡ books_by i w (mapped k n) z b) (Unit {0})
+mapped_right i w k n (Ok (x, y)) b = refl
+mapped_right i w k n (Err Failed) b = refl
+mapped_right i w k n (Err Wrong) b = tt
 
 answers_right : (i w : ℕ) (y : Ask) (a : Answer) (res : List ℕ) (b : Books) → Right (reply_of y a res) (λ r. answers_by i w (shown y) a b ≡ books_by i w y r b) (Unit {0})
 answers_right i w (config_read16 o) a res b = right_any (reply_of (config_read16 o) a res) _ (λ r. refl)

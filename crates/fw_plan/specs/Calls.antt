@@ -1,5 +1,5 @@
 -- An answer: what it leaves of the session, the mailboxes and the undo list, and when it is refused.
-use Rattle.std.specs.Prelude.{ℕ, Bool, true, false, ◌&&◌, List, eqb, leb, length}
+use Rattle.std.specs.Prelude.{ℕ, Bool, true, false, ◌&&◌, List, eqb, leb, length, Result, Ok, Err}
 use Rattle.fields.specs.Outcome.{pick}
 use Rattle.dma.specs.PageList.{listed_of, filled_at}
 use Rattle.dma.specs.declared.Cutter.{Cutter}
@@ -10,10 +10,7 @@ use Rattle.pci.specs.Suits.{suits_of}
 use Rattle.pci.specs.declared.Question.{Question}
 use Rattle.pci.specs.declared.Question.TheVariants as q
 use Rattle.pci.specs.declared.Answer.{Answer}
-use Rattle.pci.specs.declared.HandleReply.{HandleReply}
-use Rattle.pci.specs.declared.HandleReply.TheVariants as h
-use Rattle.pci.specs.declared.MapReply.{MapReply}
-use Rattle.pci.specs.declared.MapReply.TheVariants as d
+use Rattle.pci.specs.declared.NoReply.{NoReply}
 use Rattle.pci.specs.declared.Refusal.{Refusal}
 use Rattle.pci.specs.declared.Refusal.TheVariants as x
 use Rattle.work.specs.Work.{work_asks, work_step_of}
@@ -112,44 +109,21 @@ plan_of s y out top = plan_at s y out top s.stage
 
 -- A MAILBOX IS ZEROED "when their buffers are allocated": in the step that takes the good answer to the allocation
 abbrev pub wipe_prepare : Prepare → Wipe
-wipe_prepare p.Attributes = v.Neither
-wipe_prepare p.Claim = v.Neither
-wipe_prepare p.Reset = v.Neither
-wipe_prepare p.Bar = v.Neither
 wipe_prepare p.Inbox = v.Inbox
 wipe_prepare p.Outbox = v.Outbox
-wipe_prepare p.Look = v.Neither
+wipe_prepare _ = v.Neither
 
 abbrev pub wipe_by : Stage → Wipe
-wipe_by g.Fresh = v.Neither
-wipe_by (g.Open z) = v.Neither
-wipe_by g.Ended = v.Neither
 wipe_by (g.Prepare z) = wipe_prepare z
-wipe_by (g.Boot z) = v.Neither
-wipe_by (g.Client z) = v.Neither
-wipe_by (g.Close z) = v.Neither
+wipe_by _ = v.Neither
 
 abbrev pub is_allocate : Question → Bool
-is_allocate (q.ConfigRead16 o) = false
-is_allocate (q.ConfigRead32 o) = false
-is_allocate (q.ConfigWrite16 o y) = false
-is_allocate (q.ConfigWrite32 o y) = false
-is_allocate (q.RegRead b o) = false
-is_allocate (q.RegWrite b o y) = false
-is_allocate (q.Attributes o y) = false
-is_allocate (q.Resource b) = false
-is_allocate (q.Stall u) = false
 is_allocate (q.Allocate n) = true
-is_allocate (q.Map k n) = false
-is_allocate (q.Unmap k) = false
-is_allocate (q.Free k n) = false
-is_allocate q.Fence = false
-is_allocate q.Finished = false
+is_allocate _ = false
 
-abbrev pub is_granted : HandleReply → Bool
-is_granted (h.Got y) = true
-is_granted h.Failed = false
-is_granted h.Wrong = false
+abbrev pub is_granted : Result ℕ NoReply → Bool
+is_granted (Ok y) = true
+is_granted (Err _) = false
 
 abbrev pub wipe_of : Session → Answer → Wipe
 wipe_of s a = pick (is_allocate (asks_of s)) (pick (is_granted (granted_of a)) (wipe_by s.stage) v.Neither) v.Neither
@@ -178,32 +152,20 @@ abbrev pub wants : Session → Place
 wants s = place_at s.stage s.info
 
 -- WHAT AN ANSWER DOES TO THE BOOKS: `booked` of the question and the reply
-abbrev pub granted_books : (i virt pages : ℕ) → HandleReply → Books → Books
-granted_books i v n (h.Got k) b = puts i (bare v k n) b
-granted_books i v n h.Failed b = b
-granted_books i v n h.Wrong b = b
+abbrev pub granted_books : (i virt pages : ℕ) → Result ℕ NoReply → Books → Books
+granted_books i v n (Ok k) b = puts i (bare v k n) b
+granted_books i v n (Err _) b = b
 
-abbrev pub mapped_books : (i : ℕ) → MapReply → Books → Books
-mapped_books i (d.Got address bytes) b = puts i (mapped_at (slot_at b.lists.slots i) address) b
-mapped_books i d.Failed b = b
-mapped_books i d.Wrong b = b
+abbrev pub mapped_books : (i : ℕ) → Result (ℕ × ℕ) NoReply → Books → Books
+mapped_books i (Ok (address, bytes)) b = puts i (mapped_at (slot_at b.lists.slots i) address) b
+mapped_books i (Err _) b = b
 
 abbrev pub answers_by : (i virt : ℕ) → Question → Answer → Books → Books
-answers_by i w (q.ConfigRead16 o) a b = b
-answers_by i w (q.ConfigRead32 o) a b = b
-answers_by i w (q.ConfigWrite16 o y) a b = b
-answers_by i w (q.ConfigWrite32 o y) a b = b
-answers_by i w (q.RegRead k o) a b = b
-answers_by i w (q.RegWrite k o y) a b = b
-answers_by i w (q.Attributes o y) a b = b
-answers_by i w (q.Resource k) a b = b
-answers_by i w (q.Stall u) a b = b
 answers_by i w (q.Allocate n) a b = granted_books i w n (granted_of a) b
 answers_by i w (q.Map k n) a b = mapped_books i (mapped_of a) b
 answers_by i w (q.Unmap k) a b = puts i (unmapped_from (slot_at b.lists.slots i)) b
 answers_by i w (q.Free k n) a b = taken_off i b
-answers_by i w q.Fence a b = b
-answers_by i w q.Finished a b = b
+answers_by i w _ a b = b
 
 abbrev pub booked_by : Place → Question → Answer → Books → Books
 booked_by neither y a b = b

@@ -15,7 +15,7 @@ ghost use Rattle.fw_step.specs.Step as e;
 
 use fw_begin::Said;
 use fw_plan::Wipe;
-use pci::{Answer, HandleReply, Question};
+use pci::{Answer, Question};
 use session::{Core, Note, Prepare, Stage};
 use work::{Ending, Task};
 
@@ -32,13 +32,9 @@ fn wipe_prepare(p: Prepare) -> Wipe
     ensures { result ≡ f.wipe_prepare p }
 {
     match p {
-        Prepare::Attributes => Wipe::Neither,
-        Prepare::Claim => Wipe::Neither,
-        Prepare::Reset => Wipe::Neither,
-        Prepare::Bar => Wipe::Neither,
         Prepare::Inbox => Wipe::Inbox,
         Prepare::Outbox => Wipe::Outbox,
-        Prepare::Look => Wipe::Neither,
+        _ => Wipe::Neither,
     }
 }
 
@@ -46,53 +42,22 @@ fn wipe_by(stage: Stage) -> Wipe
     ensures { result ≡ f.wipe_by stage }
 {
     match stage {
-        Stage::Fresh => Wipe::Neither,
-        Stage::Open(_) => Wipe::Neither,
-        Stage::Ended => Wipe::Neither,
         Stage::Prepare(p) => wipe_prepare(p),
-        Stage::Boot(_) => Wipe::Neither,
-        Stage::Client(_) => Wipe::Neither,
-        Stage::Close(_) => Wipe::Neither,
+        _ => Wipe::Neither,
     }
 }
 
 fn is_allocate(q: Question) -> bool
     ensures { result ≡ f.is_allocate q }
 {
-    match q {
-        Question::ConfigRead16(_) => false,
-        Question::ConfigRead32(_) => false,
-        Question::ConfigWrite16(_, _) => false,
-        Question::ConfigWrite32(_, _) => false,
-        Question::RegRead(_, _) => false,
-        Question::RegWrite(_, _, _) => false,
-        Question::Attributes(_, _) => false,
-        Question::Resource(_) => false,
-        Question::Stall(_) => false,
-        Question::Allocate(_) => true,
-        Question::Map(_, _) => false,
-        Question::Unmap(_) => false,
-        Question::Free(_, _) => false,
-        Question::Fence => false,
-        Question::Finished => false,
-    }
-}
-
-fn is_granted(r: HandleReply) -> bool
-    ensures { result ≡ f.is_granted r }
-{
-    match r {
-        HandleReply::Got(_) => true,
-        HandleReply::Failed => false,
-        HandleReply::Wrong => false,
-    }
+    matches!(q, Question::Allocate(_))
 }
 
 fn wipe_of(stage: Stage, q: Question, a: Answer) -> Wipe
     ensures { result ≡ e.wipe_at stage q a }
 {
     if is_allocate(q) {
-        if is_granted(pci::as_handle(a)) {
+        if pci::as_handle(a).is_ok() {
             return wipe_by(stage);
         }
         return Wipe::Neither;

@@ -5,11 +5,12 @@ use mathlib.Core.Bool.{Bool, true, false}
 use mathlib.Core.Path.{◌≡◌, refl, ap}
 use mathlib.Core.List.{List}
 use native.Mathlib.Omega.{arith}
+use Rattle.std.specs.Prelude.{Result, Ok, Err}
 use Rattle.fields.specs.Outcome.{pick}
 use Rattle.pci.specs.Views.{dword_of}
 use Rattle.pci.specs.declared.Answer.{Answer}
-use Rattle.pci.specs.declared.DwordReply.{DwordReply}
-use Rattle.pci.specs.declared.DwordReply.TheVariants as d
+use Rattle.pci.specs.declared.NoReply.{NoReply}
+use Rattle.pci.specs.declared.NoReply.TheVariants.{Failed, Wrong}
 use Rattle.command.specs.Machine.{cmd_step_of}
 use Rattle.command.specs.declared.CmdStep.{CmdStep}
 use Rattle.command.specs.declared.CmdStep.TheVariants as cs
@@ -80,10 +81,10 @@ part_same : (w u : Work) (x : PartingStep) → going_of (part_work w x) ≡ goin
 part_same w u (ps.More k) = refl
 part_same w u ps.Ended = refl
 
-look_same : (w u : Work) (x : DwordReply) → going_of (look_step w x) ≡ going_of (look_step u x)
-look_same w u (d.Got v) = refl
-look_same w u d.Failed = refl
-look_same w u d.Wrong = refl
+look_same : (w u : Work) (x : Result ℕ NoReply) → going_of (look_step w x) ≡ going_of (look_step u x)
+look_same w u (Ok v) = refl
+look_same w u (Err Failed) = refl
+look_same w u (Err Wrong) = refl
 
 pub plain_asks : (k : Task) (r v : Reset) (f g : FindBar) → is_plain k ≡ true → work_asks (working k r f) ≡ work_asks (working k v g)
 plain_asks t.Rest r v f g h = refl

@@ -4,6 +4,7 @@ use Prim.Native.Nat.{ℕ}
 use mathlib.Core.Bool.{true}
 use mathlib.Core.Path.{◌≡◌, refl, ap, sym, subst, ◌∙◌}
 use mathlib.Core.List.{List}
+use Rattle.std.specs.Prelude.{Result, Ok, Err}
 use Rattle.words.specs.Places.{reset_at, find_at}
 use Rattle.words_beside.specs.Coding.{reset_words, find_words}
 use Rattle.words_beside.specs.Fits.{ResetFits, FindFits}
@@ -13,8 +14,8 @@ use Rattle.behind.specs.Behind.{behind_in, put_part}
 use Rattle.session.specs.Core.{Behind, behind}
 use Rattle.pci.specs.Views.{dword_of}
 use Rattle.pci.specs.declared.Answer.{Answer}
-use Rattle.pci.specs.declared.DwordReply.{DwordReply}
-use Rattle.pci.specs.declared.DwordReply.TheVariants as d
+use Rattle.pci.specs.declared.NoReply.{NoReply}
+use Rattle.pci.specs.declared.NoReply.TheVariants.{Failed, Wrong}
 use Rattle.command.specs.Machine.{cmd_step_of}
 use Rattle.command.specs.declared.CmdStep.{CmdStep}
 use Rattle.command.specs.declared.CmdStep.TheVariants as cs
@@ -77,10 +78,10 @@ part_keeps : (w : Work) (x : PartingStep) → Keeps w (part_work w x)
 part_keeps w (ps.More k) = (refl, refl)
 part_keeps w ps.Ended = (refl, refl)
 
-look_keeps : (w : Work) (x : DwordReply) → Keeps w (look_step w x)
-look_keeps w (d.Got v) = (refl, refl)
-look_keeps w d.Failed = (refl, refl)
-look_keeps w d.Wrong = (refl, refl)
+look_keeps : (w : Work) (x : Result ℕ NoReply) → Keeps w (look_step w x)
+look_keeps w (Ok v) = (refl, refl)
+look_keeps w (Err Failed) = (refl, refl)
+look_keeps w (Err Wrong) = (refl, refl)
 
 plain_keeps : (k : Task) (r : Reset) (f : FindBar) (a : Answer) (bs : List ℕ) → is_plain k ≡ true → Keeps (working k r f) (work_step_of (working k r f) a bs)
 plain_keeps t.Rest r f a bs h = (refl, refl)

@@ -3,139 +3,92 @@
 use Prim.Native.Nat.{ℕ}
 use mathlib.Core.List.{List}
 use mathlib.Core.Path.{◌≡◌}
+use mathlib.Core.Bool.{Bool, true, false}
+use Rattle.std.specs.Prelude.{Result, Ok, Err}
 use Rattle.hcr.specs.Words.{swap_of}
 use Rattle.pci.specs.Views.{word_of, dword_of, qword_of, done_of, told_of, granted_of, mapped_of, list_of}
-use Rattle.pci.specs.Script.{Script, Bus, good, failed, Spot, reply_of, config_read16, config_read32, read, attributes, unmap, stall, allocate, mapped, resource}
+use Rattle.pci.specs.Script.{Script, Bus, good, failed, Spot, as_bus, as_register, as_told, as_spot, as_list, reply_of, config_read16, config_read32, read, attributes, unmap, stall, allocate, mapped, resource}
 use Rattle.pci.specs.Machine.{Next, more, Right, rest}
 use Rattle.pci.specs.declared.Question.{Question}
 use Rattle.pci.specs.declared.Answer.{Answer}
-use Rattle.pci.specs.declared.Answer.TheVariants as a
-use Rattle.pci.specs.declared.WordReply.{WordReply}
-use Rattle.pci.specs.declared.WordReply.TheVariants as w
-use Rattle.pci.specs.declared.DwordReply.{DwordReply}
-use Rattle.pci.specs.declared.DwordReply.TheVariants as d
-use Rattle.pci.specs.declared.QwordReply.{QwordReply}
-use Rattle.pci.specs.declared.QwordReply.TheVariants as x
-use Rattle.pci.specs.declared.DoneReply.{DoneReply}
-use Rattle.pci.specs.declared.DoneReply.TheVariants as o
-use Rattle.pci.specs.declared.ToldReply.{ToldReply}
-use Rattle.pci.specs.declared.ToldReply.TheVariants as t
-use Rattle.pci.specs.declared.HandleReply.{HandleReply}
-use Rattle.pci.specs.declared.HandleReply.TheVariants as h
-use Rattle.pci.specs.declared.MapReply.{MapReply}
-use Rattle.pci.specs.declared.MapReply.TheVariants as m
-use Rattle.pci.specs.declared.ListReply.{ListReply}
-use Rattle.pci.specs.declared.ListReply.TheVariants as l
+use Rattle.pci.specs.declared.NoReply.{NoReply}
+use Rattle.pci.specs.declared.NoReply.TheVariants.{Failed, Wrong}
 
 module _ {S R : Type 0} (asks : S → Question) (step : S → Answer → List ℕ → Next S R) (denote : S → Script R) where
   -- the script that is left
   abbrev left : Next S R → Script R
   left n = rest asks step denote n
 
+  -- a reply as the bus gives it
+  bus_case : {A : Type 0} (s : S) (f : Result A NoReply → Next S R) (k : Bus A → Script R) → ((v : A) → left (f (Ok v)) ≡ k (good v)) → left (f (Err Failed)) ≡ k failed → f (Err Wrong) ≡ more s → (x : Result A NoReply)
+      → Right (as_bus x) (λ r. left (f x) ≡ k r) (f x ≡ more s)
+  bus_case s f k got bad wrong (Ok v) = got v
+  bus_case s f k got bad wrong (Err Failed) = bad
+  bus_case s f k got bad wrong (Err Wrong) = wrong
+
+  on_register : (s : S) (f : Result ℕ NoReply → Next S R) (k : Bus ℕ → Script R) → ((v : ℕ) → left (f (Ok v)) ≡ k (good (swap_of v))) → left (f (Err Failed)) ≡ k failed → f (Err Wrong) ≡ more s → (x : Result ℕ NoReply)
+      → Right (as_register x) (λ r. left (f x) ≡ k r) (f x ≡ more s)
+  on_register s f k got bad wrong (Ok v) = got v
+  on_register s f k got bad wrong (Err Failed) = bad
+  on_register s f k got bad wrong (Err Wrong) = wrong
+
+  on_told : (s : S) (f : Bool → Next S R) (k : Unit {0} → Script R) → left (f true) ≡ k tt → f false ≡ more s → (x : Bool) → Right (as_told x) (λ r. left (f x) ≡ k r) (f x ≡ more s)
+  on_told s f k got wrong true = got
+  on_told s f k got wrong false = wrong
+
+  on_spot : (s : S) (f : Result (ℕ × ℕ) NoReply → Next S R) (k : Bus Spot → Script R) → ((v n : ℕ) → left (f (Ok (v, n))) ≡ k (good (record { address = v; bytes = n }))) → left (f (Err Failed)) ≡ k failed → f (Err Wrong) ≡ more s
+      → (x : Result (ℕ × ℕ) NoReply) → Right (as_spot x) (λ r. left (f x) ≡ k r) (f x ≡ more s)
+  on_spot s f k got bad wrong (Ok (v, n)) = got v n
+  on_spot s f k got bad wrong (Err Failed) = bad
+  on_spot s f k got bad wrong (Err Wrong) = wrong
+
+  on_list : (s : S) (f : Result (Unit {0}) NoReply → Next S R) (k : Bus (List ℕ) → Script R) (bytes : List ℕ) → left (f (Ok tt)) ≡ k (good bytes) → left (f (Err Failed)) ≡ k failed → f (Err Wrong) ≡ more s → (x : Result (Unit {0}) NoReply)
+      → Right (as_list bytes x) (λ r. left (f x) ≡ k r) (f x ≡ more s)
+  on_list s f k bytes got bad wrong (Ok u) = got
+  on_list s f k bytes got bad wrong (Err Failed) = bad
+  on_list s f k bytes got bad wrong (Err Wrong) = wrong
+
   -- to a config read of 16 bits
-  pub word_case : (s : S) (f : WordReply → Next S R) (k : Bus ℕ → Script R) → ((v : ℕ) → left (f (w.Got v)) ≡ k (good v)) → left (f w.Failed) ≡ k failed → f w.Wrong ≡ more s → (a : Answer) (bytes : List ℕ)
+  pub word_case : (s : S) (f : Result ℕ NoReply → Next S R) (k : Bus ℕ → Script R) → ((v : ℕ) → left (f (Ok v)) ≡ k (good v)) → left (f (Err Failed)) ≡ k failed → f (Err Wrong) ≡ more s → (a : Answer) (bytes : List ℕ)
       → Right (reply_of (config_read16 0) a bytes) (λ r. left (f (word_of a)) ≡ k r) (f (word_of a) ≡ more s)
-  word_case s f k got bad wrong (a.Word x) bytes = got x
-  word_case s f k got bad wrong (a.Dword x) bytes = wrong
-  word_case s f k got bad wrong (a.Qword x) bytes = wrong
-  word_case s f k got bad wrong a.Done bytes = wrong
-  word_case s f k got bad wrong a.Failed bytes = bad
-  word_case s f k got bad wrong (a.Handle x) bytes = wrong
-  word_case s f k got bad wrong (a.Mapped x y) bytes = wrong
-  word_case s f k got bad wrong a.List bytes = wrong
+  word_case s f k got bad wrong a bytes = bus_case s f k got bad wrong (word_of a)
 
   -- to a config read of 32 bits
-  pub dword_case : (s : S) (f : DwordReply → Next S R) (k : Bus ℕ → Script R) → ((v : ℕ) → left (f (d.Got v)) ≡ k (good v)) → left (f d.Failed) ≡ k failed → f d.Wrong ≡ more s → (a : Answer) (bytes : List ℕ)
+  pub dword_case : (s : S) (f : Result ℕ NoReply → Next S R) (k : Bus ℕ → Script R) → ((v : ℕ) → left (f (Ok v)) ≡ k (good v)) → left (f (Err Failed)) ≡ k failed → f (Err Wrong) ≡ more s → (a : Answer) (bytes : List ℕ)
       → Right (reply_of (config_read32 0) a bytes) (λ r. left (f (dword_of a)) ≡ k r) (f (dword_of a) ≡ more s)
-  dword_case s f k got bad wrong (a.Word x) bytes = wrong
-  dword_case s f k got bad wrong (a.Dword x) bytes = got x
-  dword_case s f k got bad wrong (a.Qword x) bytes = wrong
-  dword_case s f k got bad wrong a.Done bytes = wrong
-  dword_case s f k got bad wrong a.Failed bytes = bad
-  dword_case s f k got bad wrong (a.Handle x) bytes = wrong
-  dword_case s f k got bad wrong (a.Mapped x y) bytes = wrong
-  dword_case s f k got bad wrong a.List bytes = wrong
+  dword_case s f k got bad wrong a bytes = bus_case s f k got bad wrong (dword_of a)
 
   -- to a register read
-  pub register_case : (s : S) (f : DwordReply → Next S R) (k : Bus ℕ → Script R) → ((v : ℕ) → left (f (d.Got v)) ≡ k (good (swap_of v))) → left (f d.Failed) ≡ k failed → f d.Wrong ≡ more s → (a : Answer) (bytes : List ℕ)
+  pub register_case : (s : S) (f : Result ℕ NoReply → Next S R) (k : Bus ℕ → Script R) → ((v : ℕ) → left (f (Ok v)) ≡ k (good (swap_of v))) → left (f (Err Failed)) ≡ k failed → f (Err Wrong) ≡ more s → (a : Answer) (bytes : List ℕ)
       → Right (reply_of (read 0 0) a bytes) (λ r. left (f (dword_of a)) ≡ k r) (f (dword_of a) ≡ more s)
-  register_case s f k got bad wrong (a.Word x) bytes = wrong
-  register_case s f k got bad wrong (a.Dword x) bytes = got x
-  register_case s f k got bad wrong (a.Qword x) bytes = wrong
-  register_case s f k got bad wrong a.Done bytes = wrong
-  register_case s f k got bad wrong a.Failed bytes = bad
-  register_case s f k got bad wrong (a.Handle x) bytes = wrong
-  register_case s f k got bad wrong (a.Mapped x y) bytes = wrong
-  register_case s f k got bad wrong a.List bytes = wrong
+  register_case s f k got bad wrong a bytes = on_register s f k got bad wrong (dword_of a)
 
   -- to an attribute call
-  pub qword_case : (s : S) (f : QwordReply → Next S R) (k : Bus ℕ → Script R) → ((v : ℕ) → left (f (x.Got v)) ≡ k (good v)) → left (f x.Failed) ≡ k failed → f x.Wrong ≡ more s → (a : Answer) (bytes : List ℕ)
+  pub qword_case : (s : S) (f : Result ℕ NoReply → Next S R) (k : Bus ℕ → Script R) → ((v : ℕ) → left (f (Ok v)) ≡ k (good v)) → left (f (Err Failed)) ≡ k failed → f (Err Wrong) ≡ more s → (a : Answer) (bytes : List ℕ)
       → Right (reply_of (attributes 0 0) a bytes) (λ r. left (f (qword_of a)) ≡ k r) (f (qword_of a) ≡ more s)
-  qword_case s f k got bad wrong (a.Word x) bytes = wrong
-  qword_case s f k got bad wrong (a.Dword x) bytes = wrong
-  qword_case s f k got bad wrong (a.Qword x) bytes = got x
-  qword_case s f k got bad wrong a.Done bytes = wrong
-  qword_case s f k got bad wrong a.Failed bytes = bad
-  qword_case s f k got bad wrong (a.Handle x) bytes = wrong
-  qword_case s f k got bad wrong (a.Mapped x y) bytes = wrong
-  qword_case s f k got bad wrong a.List bytes = wrong
+  qword_case s f k got bad wrong a bytes = bus_case s f k got bad wrong (qword_of a)
 
   -- to a write, an unmap or a free
-  pub done_case : (s : S) (f : DoneReply → Next S R) (k : Bus (Unit {0}) → Script R) → left (f o.Done) ≡ k (good tt) → left (f o.Failed) ≡ k failed → f o.Wrong ≡ more s → (a : Answer) (bytes : List ℕ)
+  pub done_case : (s : S) (f : Result (Unit {0}) NoReply → Next S R) (k : Bus (Unit {0}) → Script R) → left (f (Ok tt)) ≡ k (good tt) → left (f (Err Failed)) ≡ k failed → f (Err Wrong) ≡ more s → (a : Answer) (bytes : List ℕ)
       → Right (reply_of (unmap 0) a bytes) (λ r. left (f (done_of a)) ≡ k r) (f (done_of a) ≡ more s)
-  done_case s f k got bad wrong (a.Word x) bytes = wrong
-  done_case s f k got bad wrong (a.Dword x) bytes = wrong
-  done_case s f k got bad wrong (a.Qword x) bytes = wrong
-  done_case s f k got bad wrong a.Done bytes = got
-  done_case s f k got bad wrong a.Failed bytes = bad
-  done_case s f k got bad wrong (a.Handle x) bytes = wrong
-  done_case s f k got bad wrong (a.Mapped x y) bytes = wrong
-  done_case s f k got bad wrong a.List bytes = wrong
+  done_case s f k got bad wrong a bytes = bus_case s f k (λ u. got) bad wrong (done_of a)
 
   -- to a stall or a fence
-  pub told_case : (s : S) (f : ToldReply → Next S R) (k : Unit {0} → Script R) → left (f t.Told) ≡ k tt → f t.Wrong ≡ more s → (a : Answer) (bytes : List ℕ)
+  pub told_case : (s : S) (f : Bool → Next S R) (k : Unit {0} → Script R) → left (f true) ≡ k tt → f false ≡ more s → (a : Answer) (bytes : List ℕ)
       → Right (reply_of (stall 0) a bytes) (λ r. left (f (told_of a)) ≡ k r) (f (told_of a) ≡ more s)
-  told_case s f k got wrong (a.Word x) bytes = wrong
-  told_case s f k got wrong (a.Dword x) bytes = wrong
-  told_case s f k got wrong (a.Qword x) bytes = wrong
-  told_case s f k got wrong a.Done bytes = got
-  told_case s f k got wrong a.Failed bytes = wrong
-  told_case s f k got wrong (a.Handle x) bytes = wrong
-  told_case s f k got wrong (a.Mapped x y) bytes = wrong
-  told_case s f k got wrong a.List bytes = wrong
+  told_case s f k got wrong a bytes = on_told s f k got wrong (told_of a)
 
   -- to an allocation
-  pub handle_case : (s : S) (f : HandleReply → Next S R) (k : Bus ℕ → Script R) → ((v : ℕ) → left (f (h.Got v)) ≡ k (good v)) → left (f h.Failed) ≡ k failed → f h.Wrong ≡ more s → (a : Answer) (bytes : List ℕ)
+  pub handle_case : (s : S) (f : Result ℕ NoReply → Next S R) (k : Bus ℕ → Script R) → ((v : ℕ) → left (f (Ok v)) ≡ k (good v)) → left (f (Err Failed)) ≡ k failed → f (Err Wrong) ≡ more s → (a : Answer) (bytes : List ℕ)
       → Right (reply_of (allocate 0) a bytes) (λ r. left (f (granted_of a)) ≡ k r) (f (granted_of a) ≡ more s)
-  handle_case s f k got bad wrong (a.Word x) bytes = wrong
-  handle_case s f k got bad wrong (a.Dword x) bytes = wrong
-  handle_case s f k got bad wrong (a.Qword x) bytes = wrong
-  handle_case s f k got bad wrong a.Done bytes = wrong
-  handle_case s f k got bad wrong a.Failed bytes = bad
-  handle_case s f k got bad wrong (a.Handle x) bytes = got x
-  handle_case s f k got bad wrong (a.Mapped x y) bytes = wrong
-  handle_case s f k got bad wrong a.List bytes = wrong
+  handle_case s f k got bad wrong a bytes = bus_case s f k got bad wrong (granted_of a)
 
   -- to a map
-  pub map_case : (s : S) (f : MapReply → Next S R) (k : Bus Spot → Script R) → ((v n : ℕ) → left (f (m.Got v n)) ≡ k (good (record { address = v; bytes = n }))) → left (f m.Failed) ≡ k failed → f m.Wrong ≡ more s → (a : Answer) (bytes : List ℕ)
+  pub map_case : (s : S) (f : Result (ℕ × ℕ) NoReply → Next S R) (k : Bus Spot → Script R) → ((v n : ℕ) → left (f (Ok (v, n))) ≡ k (good (record { address = v; bytes = n }))) → left (f (Err Failed)) ≡ k failed → f (Err Wrong) ≡ more s → (a : Answer) (bytes : List ℕ)
       → Right (reply_of (mapped 0 0) a bytes) (λ r. left (f (mapped_of a)) ≡ k r) (f (mapped_of a) ≡ more s)
-  map_case s f k got bad wrong (a.Word x) bytes = wrong
-  map_case s f k got bad wrong (a.Dword x) bytes = wrong
-  map_case s f k got bad wrong (a.Qword x) bytes = wrong
-  map_case s f k got bad wrong a.Done bytes = wrong
-  map_case s f k got bad wrong a.Failed bytes = bad
-  map_case s f k got bad wrong (a.Handle x) bytes = wrong
-  map_case s f k got bad wrong (a.Mapped x y) bytes = got x y
-  map_case s f k got bad wrong a.List bytes = wrong
+  map_case s f k got bad wrong a bytes = on_spot s f k got bad wrong (mapped_of a)
 
   -- to a question for a BAR resource, with the bytes lent beside the answer
-  pub list_case : (s : S) (f : List ℕ → ListReply → Next S R) (k : Bus (List ℕ) → Script R) → ((bs : List ℕ) → left (f bs l.Got) ≡ k (good bs)) → ((bs : List ℕ) → left (f bs l.Failed) ≡ k failed) → ((bs : List ℕ) → f bs l.Wrong ≡ more s) → (a : Answer) (bytes : List ℕ)
+  pub list_case : (s : S) (f : List ℕ → Result (Unit {0}) NoReply → Next S R) (k : Bus (List ℕ) → Script R) → ((bs : List ℕ) → left (f bs (Ok tt)) ≡ k (good bs)) → ((bs : List ℕ) → left (f bs (Err Failed)) ≡ k failed) → ((bs : List ℕ) → f bs (Err Wrong) ≡ more s) → (a : Answer) (bytes : List ℕ)
       → Right (reply_of (resource 0) a bytes) (λ r. left (f bytes (list_of a)) ≡ k r) (f bytes (list_of a) ≡ more s)
-  list_case s f k got bad wrong (a.Word x) bytes = wrong bytes
-  list_case s f k got bad wrong (a.Dword x) bytes = wrong bytes
-  list_case s f k got bad wrong (a.Qword x) bytes = wrong bytes
-  list_case s f k got bad wrong a.Done bytes = wrong bytes
-  list_case s f k got bad wrong a.Failed bytes = bad bytes
-  list_case s f k got bad wrong (a.Handle x) bytes = wrong bytes
-  list_case s f k got bad wrong (a.Mapped x y) bytes = wrong bytes
-  list_case s f k got bad wrong a.List bytes = got bytes
+  list_case s f k got bad wrong a bytes = on_list s (f bytes) k bytes (got bytes) (bad bytes) (wrong bytes) (list_of a)

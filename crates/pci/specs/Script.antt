@@ -1,28 +1,14 @@
 -- A script: a tree of questions. What may be replied to a question is a type of its own, so a script never meets an answer of the wrong kind. A register's value
 -- is the register's own (big-endian) number, and a fence names the bytes of the inbox that the shell copies to the device.
-use Rattle.std.specs.Prelude.{ℕ, List}
+use Rattle.std.specs.Prelude.{ℕ, List, Bool, true, false, Result, Ok, Err}
 use Rattle.std.proofs.Math.Option.{Option, some, none}
 use Rattle.hcr.specs.Words.{swap_of}
 use Rattle.pci.specs.Views.{word_of, dword_of, qword_of, done_of, told_of, granted_of, mapped_of, list_of}
 use Rattle.pci.specs.declared.Question.{Question}
 use Rattle.pci.specs.declared.Question.TheVariants as q
 use Rattle.pci.specs.declared.Answer.{Answer}
-use Rattle.pci.specs.declared.WordReply.{WordReply}
-use Rattle.pci.specs.declared.WordReply.TheVariants as w
-use Rattle.pci.specs.declared.DwordReply.{DwordReply}
-use Rattle.pci.specs.declared.DwordReply.TheVariants as d
-use Rattle.pci.specs.declared.QwordReply.{QwordReply}
-use Rattle.pci.specs.declared.QwordReply.TheVariants as x
-use Rattle.pci.specs.declared.DoneReply.{DoneReply}
-use Rattle.pci.specs.declared.DoneReply.TheVariants as o
-use Rattle.pci.specs.declared.ToldReply.{ToldReply}
-use Rattle.pci.specs.declared.ToldReply.TheVariants as t
-use Rattle.pci.specs.declared.HandleReply.{HandleReply}
-use Rattle.pci.specs.declared.HandleReply.TheVariants as h
-use Rattle.pci.specs.declared.MapReply.{MapReply}
-use Rattle.pci.specs.declared.MapReply.TheVariants as m
-use Rattle.pci.specs.declared.ListReply.{ListReply}
-use Rattle.pci.specs.declared.ListReply.TheVariants as l
+use Rattle.pci.specs.declared.NoReply.{NoReply}
+use Rattle.pci.specs.declared.NoReply.TheVariants.{Failed, Wrong}
 
 -- "Kinds: config read or write (16, 32 bits), register read or write (BAR, offset), attribute call, BAR resource, stall, allocate (zeroed), map, unmap, free,
 -- fence". Public document: UEFI, PCI I/O Protocol, whose calls these are, but for stall (boot
@@ -97,62 +83,42 @@ shown (free h n) = q.Free h n
 shown (fence i) = q.Fence
 
 -- an answer as a reply to a question: none where its kind is wrong, which is 20. The bytes are those lent for a resource list.
-abbrev pub as_word : WordReply → Option (Bus ℕ)
-as_word (w.Got v) = some (good v)
-as_word w.Failed = some failed
-as_word w.Wrong = none
+abbrev pub as_bus : {A : Type 0} → Result A NoReply → Option (Bus A)
+as_bus (Ok v) = some (good v)
+as_bus (Err Failed) = some failed
+as_bus (Err Wrong) = none
 
-abbrev pub as_dword : DwordReply → Option (Bus ℕ)
-as_dword (d.Got v) = some (good v)
-as_dword d.Failed = some failed
-as_dword d.Wrong = none
+abbrev pub as_register : Result ℕ NoReply → Option (Bus ℕ)
+as_register (Ok v) = some (good (swap_of v))
+as_register (Err Failed) = some failed
+as_register (Err Wrong) = none
 
-abbrev pub as_register : DwordReply → Option (Bus ℕ)
-as_register (d.Got v) = some (good (swap_of v))
-as_register d.Failed = some failed
-as_register d.Wrong = none
+abbrev pub as_told : Bool → Option (Unit {0})
+as_told true = some tt
+as_told false = none
 
-abbrev pub as_qword : QwordReply → Option (Bus ℕ)
-as_qword (x.Got v) = some (good v)
-as_qword x.Failed = some failed
-as_qword x.Wrong = none
+abbrev pub as_spot : Result (ℕ × ℕ) NoReply → Option (Bus Spot)
+as_spot (Ok (a, n)) = some (good (record { address = a; bytes = n }))
+as_spot (Err Failed) = some failed
+as_spot (Err Wrong) = none
 
-abbrev pub as_done : DoneReply → Option (Bus (Unit {0}))
-as_done o.Done = some (good tt)
-as_done o.Failed = some failed
-as_done o.Wrong = none
-
-abbrev pub as_told : ToldReply → Option (Unit {0})
-as_told t.Told = some tt
-as_told t.Wrong = none
-
-abbrev pub as_handle : HandleReply → Option (Bus ℕ)
-as_handle (h.Got v) = some (good v)
-as_handle h.Failed = some failed
-as_handle h.Wrong = none
-
-abbrev pub as_spot : MapReply → Option (Bus Spot)
-as_spot (m.Got a n) = some (good (record { address = a; bytes = n }))
-as_spot m.Failed = some failed
-as_spot m.Wrong = none
-
-abbrev pub as_list : List ℕ → ListReply → Option (Bus (List ℕ))
-as_list bytes l.Got = some (good bytes)
-as_list bytes l.Failed = some failed
-as_list bytes l.Wrong = none
+abbrev pub as_list : List ℕ → Result (Unit {0}) NoReply → Option (Bus (List ℕ))
+as_list bytes (Ok u) = some (good bytes)
+as_list bytes (Err Failed) = some failed
+as_list bytes (Err Wrong) = none
 
 abbrev pub reply_of : (q : Ask) → Answer → (bytes : List ℕ) → Option (Reply q)
-reply_of (config_read16 o) a bytes = as_word (word_of a)
-reply_of (config_read32 o) a bytes = as_dword (dword_of a)
-reply_of (config_write16 o v) a bytes = as_done (done_of a)
-reply_of (config_write32 o v) a bytes = as_done (done_of a)
+reply_of (config_read16 o) a bytes = as_bus (word_of a)
+reply_of (config_read32 o) a bytes = as_bus (dword_of a)
+reply_of (config_write16 o v) a bytes = as_bus (done_of a)
+reply_of (config_write32 o v) a bytes = as_bus (done_of a)
 reply_of (read b o) a bytes = as_register (dword_of a)
-reply_of (write b o v) a bytes = as_done (done_of a)
-reply_of (attributes o v) a bytes = as_qword (qword_of a)
+reply_of (write b o v) a bytes = as_bus (done_of a)
+reply_of (attributes o v) a bytes = as_bus (qword_of a)
 reply_of (resource b) a bytes = as_list bytes (list_of a)
 reply_of (stall u) a bytes = as_told (told_of a)
-reply_of (allocate n) a bytes = as_handle (granted_of a)
+reply_of (allocate n) a bytes = as_bus (granted_of a)
 reply_of (mapped h n) a bytes = as_spot (mapped_of a)
-reply_of (unmap h) a bytes = as_done (done_of a)
-reply_of (free h n) a bytes = as_done (done_of a)
+reply_of (unmap h) a bytes = as_bus (done_of a)
+reply_of (free h n) a bytes = as_bus (done_of a)
 reply_of (fence i) a bytes = as_told (told_of a)

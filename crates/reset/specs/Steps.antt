@@ -1,5 +1,5 @@
 -- The reset as steps by value: the question of each state, what an answer makes of it, and the script that is left.
-use Rattle.std.specs.Prelude.{ℕ, zero, suc, ◌+◌, ◌*◌, ◌/◌, ◌%◌, not, List, get_or, set, replicate, eqb}
+use Rattle.std.specs.Prelude.{ℕ, zero, suc, ◌+◌, ◌*◌, ◌/◌, ◌%◌, not, List, get_or, set, replicate, eqb, Result, Ok, Err, Bool, true, false}
 use Rattle.std.proofs.Math.Option.{some}
 use Rattle.fields.specs.Outcome.{pick}
 use Rattle.hcr.specs.Words.{swap_of}
@@ -10,14 +10,8 @@ use Rattle.pci.specs.Machine as m
 use Rattle.pci.specs.declared.Question.{Question}
 use Rattle.pci.specs.declared.Question.TheVariants as q
 use Rattle.pci.specs.declared.Answer.{Answer}
-use Rattle.pci.specs.declared.WordReply.{WordReply}
-use Rattle.pci.specs.declared.WordReply.TheVariants as w
-use Rattle.pci.specs.declared.DwordReply.{DwordReply}
-use Rattle.pci.specs.declared.DwordReply.TheVariants as d
-use Rattle.pci.specs.declared.DoneReply.{DoneReply}
-use Rattle.pci.specs.declared.DoneReply.TheVariants as o
-use Rattle.pci.specs.declared.ToldReply.{ToldReply}
-use Rattle.pci.specs.declared.ToldReply.TheVariants as t
+use Rattle.pci.specs.declared.NoReply.{NoReply}
+use Rattle.pci.specs.declared.NoReply.TheVariants.{Failed, Wrong}
 use Rattle.reset.specs.Reset.{dword_at, restored_at, pointer, restore, restore_control, vendor, settle, written, semaphore, link_control, control, header, walk, capability, save}
 use Rattle.reset.specs.declared.ResetEnd.{ResetEnd}
 use Rattle.reset.specs.declared.ResetEnd.TheVariants as e
@@ -61,92 +55,92 @@ abbrev pub walk_move : (n at : ℕ) → Move
 walk_move zero at = v.Known c.Absent
 walk_move (suc n) at = pick (eqb at 0) (v.Known c.Absent) (v.To (p.Header n at))
 
-abbrev pub saving_move : (n : ℕ) → DwordReply → Move
-saving_move n (d.Got x) = v.Save n x
-saving_move n d.Failed = v.End e.Save
-saving_move n d.Wrong = v.Stay
+abbrev pub saving_move : (n : ℕ) → Result ℕ NoReply → Move
+saving_move n (Ok x) = v.Save n x
+saving_move n (Err Failed) = v.End e.Save
+saving_move n (Err Wrong) = v.Stay
 
-abbrev pub pointer_move : DwordReply → Move
-pointer_move (d.Got x) = walk_move 48 (pointer (x % 0x100))
-pointer_move d.Failed = v.Known c.Absent
-pointer_move d.Wrong = v.Stay
+abbrev pub pointer_move : Result ℕ NoReply → Move
+pointer_move (Ok x) = walk_move 48 (pointer (x % 0x100))
+pointer_move (Err Failed) = v.Known c.Absent
+pointer_move (Err Wrong) = v.Stay
 
-abbrev pub header_move : (n at : ℕ) → WordReply → Move
-header_move n at (w.Got x) = pick (eqb (x % 0x100) 0x10) (v.To (p.Device at)) (walk_move n (pointer (x / 0x100)))
-header_move n at w.Failed = v.Known c.Absent
-header_move n at w.Wrong = v.Stay
+abbrev pub header_move : (n at : ℕ) → Result ℕ NoReply → Move
+header_move n at (Ok x) = pick (eqb (x % 0x100) 0x10) (v.To (p.Device at)) (walk_move n (pointer (x / 0x100)))
+header_move n at (Err Failed) = v.Known c.Absent
+header_move n at (Err Wrong) = v.Stay
 
-abbrev pub device_move : (at : ℕ) → WordReply → Move
-device_move at (w.Got x) = v.To (p.Link at x)
-device_move at w.Failed = v.Known c.Absent
-device_move at w.Wrong = v.Stay
+abbrev pub device_move : (at : ℕ) → Result ℕ NoReply → Move
+device_move at (Ok x) = v.To (p.Link at x)
+device_move at (Err Failed) = v.Known c.Absent
+device_move at (Err Wrong) = v.Stay
 
-abbrev pub link_move : (at device : ℕ) → WordReply → Move
-link_move at device (w.Got x) = v.Known (c.Saved at device x)
-link_move at device w.Failed = v.Known c.Absent
-link_move at device w.Wrong = v.Stay
+abbrev pub link_move : (at device : ℕ) → Result ℕ NoReply → Move
+link_move at device (Ok x) = v.Known (c.Saved at device x)
+link_move at device (Err Failed) = v.Known c.Absent
+link_move at device (Err Wrong) = v.Stay
 
 -- the semaphore is not free
 abbrev pub held_move : (n value : ℕ) → Move
 held_move zero x = v.End (e.Semaphore x)
 held_move (suc n) x = v.To (p.Hold n)
 
-abbrev pub semaphore_move : (n : ℕ) → DwordReply → Move
-semaphore_move n (d.Got x) = pick (eqb (swap_of x) 0) (v.To p.Writing) (held_move n (swap_of x))
-semaphore_move n d.Failed = v.End (e.Semaphore 0)
-semaphore_move n d.Wrong = v.Stay
+abbrev pub semaphore_move : (n : ℕ) → Result ℕ NoReply → Move
+semaphore_move n (Ok x) = pick (eqb (swap_of x) 0) (v.To p.Writing) (held_move n (swap_of x))
+semaphore_move n (Err Failed) = v.End (e.Semaphore 0)
+semaphore_move n (Err Wrong) = v.Stay
 
 -- after a stall
-abbrev pub told_move : Phase → ToldReply → Move
-told_move next t.Told = v.To next
-told_move next t.Wrong = v.Stay
+abbrev pub told_move : Phase → Bool → Move
+told_move next true = v.To next
+told_move next false = v.Stay
 
-abbrev pub hold_move : (n : ℕ) → ToldReply → Move
+abbrev pub hold_move : (n : ℕ) → Bool → Move
 hold_move n r = told_move (p.Semaphore n) r
 
-abbrev pub settle_move : ToldReply → Move
+abbrev pub settle_move : Bool → Move
 settle_move r = told_move (p.Vendor 1999) r
 
-abbrev pub write_move : DoneReply → Move
-write_move o.Done = v.To p.Settle
-write_move o.Failed = v.End e.Write
-write_move o.Wrong = v.Stay
+abbrev pub write_move : Result (Unit {0}) NoReply → Move
+write_move (Ok _) = v.To p.Settle
+write_move (Err Failed) = v.End e.Write
+write_move (Err Wrong) = v.Stay
 
 -- the first thing to be restored
 abbrev pub restoring : Control → Phase
 restoring c.Absent = p.Back 15
 restoring (c.Saved at device link) = p.BackDevice at device link
 
-abbrev pub vendor_move : (n : ℕ) → Control → WordReply → Move
-vendor_move n k (w.Got x) = pick (not (eqb x 0xffff)) (v.To (restoring k)) (v.To (p.Gone n))
-vendor_move n k w.Failed = v.To (p.Gone n)
-vendor_move n k w.Wrong = v.Stay
+abbrev pub vendor_move : (n : ℕ) → Control → Result ℕ NoReply → Move
+vendor_move n k (Ok x) = pick (not (eqb x 0xffff)) (v.To (restoring k)) (v.To (p.Gone n))
+vendor_move n k (Err Failed) = v.To (p.Gone n)
+vendor_move n k (Err Wrong) = v.Stay
 
 abbrev pub gone_on : (n : ℕ) → Move
 gone_on zero = v.End e.Vendor
 gone_on (suc n) = v.To (p.Vendor n)
 
-abbrev pub gone_move : (n : ℕ) → ToldReply → Move
-gone_move n t.Told = gone_on n
-gone_move n t.Wrong = v.Stay
+abbrev pub gone_move : (n : ℕ) → Bool → Move
+gone_move n true = gone_on n
+gone_move n false = v.Stay
 
 -- after a write whose failure is passed over
-abbrev pub back_on : Move → DoneReply → Move
-back_on m o.Done = m
-back_on m o.Failed = m
-back_on m o.Wrong = v.Stay
+abbrev pub back_on : Move → Result (Unit {0}) NoReply → Move
+back_on m (Ok _) = m
+back_on m (Err Failed) = m
+back_on m (Err Wrong) = v.Stay
 
-abbrev pub back_device_move : (at link : ℕ) → DoneReply → Move
+abbrev pub back_device_move : (at link : ℕ) → Result (Unit {0}) NoReply → Move
 back_device_move at link r = back_on (v.To (p.BackLink at link)) r
 
-abbrev pub back_link_move : DoneReply → Move
+abbrev pub back_link_move : Result (Unit {0}) NoReply → Move
 back_link_move r = back_on (v.To (p.Back 15)) r
 
 abbrev pub back_next : (n : ℕ) → Move
 back_next zero = v.End e.Good
 back_next (suc n) = v.To (p.Back n)
 
-abbrev pub back_move : (n : ℕ) → DoneReply → Move
+abbrev pub back_move : (n : ℕ) → Result (Unit {0}) NoReply → Move
 back_move n r = back_on (back_next n) r
 
 -- the state with another phase, with control words, or with a dword

@@ -8,7 +8,7 @@ ghost use Rattle.reset.specs.Steps.{started, restoring, walk_move, saving_move, 
 ghost use Rattle.reset.specs.Steps.{held_move, semaphore_move, write_move, told_move, vendor_move, gone_move, back_next, back_on};
 ghost use Rattle.reset.specs.Steps.{saves, moved_of, move_at, reset_step_of, reset_asks, asks_at};
 
-use pci::{Answer, DoneReply, DwordReply, Question, ToldReply, WordReply};
+use pci::{Answer, NoReply, Question};
 
 // How a reset ends: good, or in which part of it. At the semaphore with its last value, or 0 where it could not be read.
 #[derive(Clone, Copy)]
@@ -182,62 +182,62 @@ fn walk(left: u8, at: u8) -> Move
 }
 
 // A config dword.
-fn saving(n: u8, r: DwordReply) -> Move
+fn saving(n: u8, r: Result<u32, NoReply>) -> Move
     ensures { result ≡ saving_move n r }
 {
     match r {
-        DwordReply::Got(x) => Move::Save(n, x),
-        DwordReply::Failed => Move::End(ResetEnd::Save),
-        DwordReply::Wrong => Move::Stay,
+        Ok(x) => Move::Save(n, x),
+        Err(NoReply::Failed) => Move::End(ResetEnd::Save),
+        Err(NoReply::Wrong) => Move::Stay,
     }
 }
 
 // The pointer to the first capability.
-fn pointed(r: DwordReply) -> Move
+fn pointed(r: Result<u32, NoReply>) -> Move
     ensures { result ≡ pointer_move r }
 {
     match r {
-        DwordReply::Got(x) => walk(Reset::HEADERS, pointer_in((x % 0x100) as u8)),
-        DwordReply::Failed => Move::Known(Control::Absent),
-        DwordReply::Wrong => Move::Stay,
+        Ok(x) => walk(Reset::HEADERS, pointer_in((x % 0x100) as u8)),
+        Err(NoReply::Failed) => Move::Known(Control::Absent),
+        Err(NoReply::Wrong) => Move::Stay,
     }
 }
 
 // A header, which is the capability's, or points to the next.
-fn header(n: u8, at: u8, r: WordReply) -> Move
+fn header(n: u8, at: u8, r: Result<u16, NoReply>) -> Move
     ensures { result ≡ header_move n at r }
 {
     match r {
-        WordReply::Got(x) => {
+        Ok(x) => {
             if x % 0x100 == Reset::EXPRESS {
                 return Move::To(Phase::Device(at));
             }
             walk(n, pointer_in((x / 0x100) as u8))
         }
-        WordReply::Failed => Move::Known(Control::Absent),
-        WordReply::Wrong => Move::Stay,
+        Err(NoReply::Failed) => Move::Known(Control::Absent),
+        Err(NoReply::Wrong) => Move::Stay,
     }
 }
 
 // Device control.
-fn device(at: u8, r: WordReply) -> Move
+fn device(at: u8, r: Result<u16, NoReply>) -> Move
     ensures { result ≡ device_move at r }
 {
     match r {
-        WordReply::Got(x) => Move::To(Phase::Link(at, x)),
-        WordReply::Failed => Move::Known(Control::Absent),
-        WordReply::Wrong => Move::Stay,
+        Ok(x) => Move::To(Phase::Link(at, x)),
+        Err(NoReply::Failed) => Move::Known(Control::Absent),
+        Err(NoReply::Wrong) => Move::Stay,
     }
 }
 
 // Link control.
-fn link(at: u8, device: u16, r: WordReply) -> Move
+fn link(at: u8, device: u16, r: Result<u16, NoReply>) -> Move
     ensures { result ≡ link_move at device r }
 {
     match r {
-        WordReply::Got(x) => Move::Known(Control::Saved(at, device, x)),
-        WordReply::Failed => Move::Known(Control::Absent),
-        WordReply::Wrong => Move::Stay,
+        Ok(x) => Move::Known(Control::Saved(at, device, x)),
+        Err(NoReply::Failed) => Move::Known(Control::Absent),
+        Err(NoReply::Wrong) => Move::Stay,
     }
 }
 
@@ -252,41 +252,41 @@ fn held(n: u16, value: u32) -> Move
 }
 
 // The semaphore.
-fn semaphore(n: u16, r: DwordReply) -> Move
+fn semaphore(n: u16, r: Result<u32, NoReply>) -> Move
     ensures { result ≡ semaphore_move n r }
 {
     match r {
-        DwordReply::Got(x) => {
+        Ok(x) => {
             let value = hcr::swap(x);
             if value == 0 {
                 return Move::To(Phase::Writing);
             }
             held(n, value)
         }
-        DwordReply::Failed => Move::End(ResetEnd::Semaphore(0)),
-        DwordReply::Wrong => Move::Stay,
+        Err(NoReply::Failed) => Move::End(ResetEnd::Semaphore(0)),
+        Err(NoReply::Wrong) => Move::Stay,
     }
 }
 
 // The reset register was written.
-fn wrote(r: DoneReply) -> Move
+fn wrote(r: Result<(), NoReply>) -> Move
     ensures { result ≡ write_move r }
 {
     match r {
-        DoneReply::Done => Move::To(Phase::Settle),
-        DoneReply::Failed => Move::End(ResetEnd::Write),
-        DoneReply::Wrong => Move::Stay,
+        Ok(()) => Move::To(Phase::Settle),
+        Err(NoReply::Failed) => Move::End(ResetEnd::Write),
+        Err(NoReply::Wrong) => Move::Stay,
     }
 }
 
 // A stall that another question follows.
-fn told(next: Phase, r: ToldReply) -> Move
-    ensures { result ≡ told_move next r }
+fn told(next: Phase, told: bool) -> Move
+    ensures { result ≡ told_move next told }
 {
-    match r {
-        ToldReply::Told => Move::To(next),
-        ToldReply::Wrong => Move::Stay,
+    if told {
+        return Move::To(next);
     }
+    Move::Stay
 }
 
 // The first thing to be restored.
@@ -300,34 +300,32 @@ fn restores(control: Control) -> Phase
 }
 
 // The vendor: the card is there, or not yet.
-fn vendor(n: u16, control: Control, r: WordReply) -> Move
+fn vendor(n: u16, control: Control, r: Result<u16, NoReply>) -> Move
     ensures { result ≡ vendor_move n control r }
 {
     match r {
-        WordReply::Got(x) => {
+        Ok(x) => {
             if x == Reset::NO_VENDOR {
                 return Move::To(Phase::Gone(n));
             }
             Move::To(restores(control))
         }
-        WordReply::Failed => Move::To(Phase::Gone(n)),
-        WordReply::Wrong => Move::Stay,
+        Err(NoReply::Failed) => Move::To(Phase::Gone(n)),
+        Err(NoReply::Wrong) => Move::Stay,
     }
 }
 
 // The stall after a vendor that was not there.
-fn gone(n: u16, r: ToldReply) -> Move
-    ensures { result ≡ gone_move n r }
+fn gone(n: u16, told: bool) -> Move
+    ensures { result ≡ gone_move n told }
 {
-    match r {
-        ToldReply::Told => {
-            if n == 0 {
-                return Move::End(ResetEnd::Vendor);
-            }
-            Move::To(Phase::Vendor(n - 1))
-        }
-        ToldReply::Wrong => Move::Stay,
+    if !told {
+        return Move::Stay;
     }
+    if n == 0 {
+        return Move::End(ResetEnd::Vendor);
+    }
+    Move::To(Phase::Vendor(n - 1))
 }
 
 // What follows when a config dword was written back.
@@ -341,13 +339,12 @@ fn onward(n: u8) -> Move
 }
 
 // A write whose failure is passed over.
-fn back(next: Move, r: DoneReply) -> Move
+fn back(next: Move, r: Result<(), NoReply>) -> Move
     ensures { result ≡ back_on next r }
 {
     match r {
-        DoneReply::Done => next,
-        DoneReply::Failed => next,
-        DoneReply::Wrong => Move::Stay,
+        Ok(()) | Err(NoReply::Failed) => next,
+        Err(NoReply::Wrong) => Move::Stay,
     }
 }
 

@@ -2,7 +2,7 @@
 -- Public document: UEFI, PCI I/O Protocol, Attributes(): its operations, and the bits of memory,
 -- bus master (0x600) and dual address cycle (0x8000). It was not at hand: the numbers are the
 -- Rust's.
-use Rattle.std.specs.Prelude.{ℕ, List, []}
+use Rattle.std.specs.Prelude.{ℕ, List, [], Result, Ok, Err}
 use Rattle.fields.specs.Outcome.{Outcome, value, refused, pick}
 use Rattle.hcr.specs.Words.{bit}
 use Rattle.pci.specs.Views.{qword_of}
@@ -11,8 +11,8 @@ use Rattle.pci.specs.Machine.{Next, more, ended, Follows}
 use Rattle.pci.specs.declared.Question.{Question}
 use Rattle.pci.specs.declared.Question.TheVariants as q
 use Rattle.pci.specs.declared.Answer.{Answer}
-use Rattle.pci.specs.declared.QwordReply.{QwordReply}
-use Rattle.pci.specs.declared.QwordReply.TheVariants as x
+use Rattle.pci.specs.declared.NoReply.{NoReply}
+use Rattle.pci.specs.declared.NoReply.TheVariants.{Failed, Wrong}
 use Rattle.tasks.specs.declared.Attributes.{Attributes}
 use Rattle.tasks.specs.declared.Attributes.TheVariants as r
 use Rattle.tasks.specs.declared.Attr.{Attr}
@@ -54,22 +54,22 @@ attr_asks p.Get = q.Attributes 0 0
 attr_asks (p.Supported v) = q.Attributes 4 0
 attr_asks (p.Enable v w) = q.Attributes 2 w
 
-abbrev pub got_step : QwordReply → AttrStep
-got_step (x.Got v) = s.More (p.Supported v)
-got_step x.Failed = s.Ended r.Refused
-got_step x.Wrong = s.More p.Get
+abbrev pub got_step : Result ℕ NoReply → AttrStep
+got_step (Ok v) = s.More (p.Supported v)
+got_step (Err Failed) = s.Ended r.Refused
+got_step (Err Wrong) = s.More p.Get
 
-abbrev pub supported_step : ℕ → QwordReply → AttrStep
-supported_step v (x.Got y) = s.More (p.Enable v (wanted y))
-supported_step v x.Failed = s.More (p.Enable v (wanted 0))
-supported_step v x.Wrong = s.More (p.Supported v)
+abbrev pub supported_step : ℕ → Result ℕ NoReply → AttrStep
+supported_step v (Ok y) = s.More (p.Enable v (wanted y))
+supported_step v (Err Failed) = s.More (p.Enable v (wanted 0))
+supported_step v (Err Wrong) = s.More (p.Supported v)
 
-abbrev pub enable_step : (v w : ℕ) → QwordReply → AttrStep
-enable_step v w (x.Got y) = s.Ended (r.Enabled v)
-enable_step v w x.Failed = s.Ended r.Refused
-enable_step v w x.Wrong = s.More (p.Enable v w)
+abbrev pub enable_step : (v w : ℕ) → Result ℕ NoReply → AttrStep
+enable_step v w (Ok y) = s.Ended (r.Enabled v)
+enable_step v w (Err Failed) = s.Ended r.Refused
+enable_step v w (Err Wrong) = s.More (p.Enable v w)
 
-abbrev pub attr_step_at : QwordReply → Attr → AttrStep
+abbrev pub attr_step_at : Result ℕ NoReply → Attr → AttrStep
 attr_step_at y p.Get = got_step y
 attr_step_at y (p.Supported v) = supported_step v y
 attr_step_at y (p.Enable v w) = enable_step v w y

@@ -1,5 +1,5 @@
 -- The claim, as a script and as steps. Document 01: "2 owner register unreadable or not 0"; the Rust's `claim`: INTx is disabled, then the owner read once.
-use Rattle.std.specs.Prelude.{ℕ, ◌+◌, List, [], eqb}
+use Rattle.std.specs.Prelude.{ℕ, ◌+◌, List, [], eqb, Result, Ok, Err}
 use Rattle.fields.specs.Outcome.{Outcome, value, refused, pick}
 use Rattle.hcr.specs.Words.{bit, swap_of}
 use Rattle.pci.specs.Views.{word_of, dword_of, done_of}
@@ -8,12 +8,8 @@ use Rattle.pci.specs.Machine.{Next, more, ended, Follows}
 use Rattle.pci.specs.declared.Question.{Question}
 use Rattle.pci.specs.declared.Question.TheVariants as q
 use Rattle.pci.specs.declared.Answer.{Answer}
-use Rattle.pci.specs.declared.WordReply.{WordReply}
-use Rattle.pci.specs.declared.WordReply.TheVariants as w
-use Rattle.pci.specs.declared.DwordReply.{DwordReply}
-use Rattle.pci.specs.declared.DwordReply.TheVariants as d
-use Rattle.pci.specs.declared.DoneReply.{DoneReply}
-use Rattle.pci.specs.declared.DoneReply.TheVariants as o
+use Rattle.pci.specs.declared.NoReply.{NoReply}
+use Rattle.pci.specs.declared.NoReply.TheVariants.{Failed, Wrong}
 use Rattle.tasks.specs.declared.Claimed.{Claimed}
 use Rattle.tasks.specs.declared.Claimed.TheVariants as r
 use Rattle.tasks.specs.declared.Claim.{Claim}
@@ -55,20 +51,20 @@ claim_asks p.Command = q.ConfigRead16 0x04
 claim_asks (p.Write v) = q.ConfigWrite16 0x04 v
 claim_asks p.Owner = q.RegRead 0 0x8069c
 
-abbrev pub command_step : WordReply → ClaimStep
-command_step (w.Got v) = s.More (p.Write (without_intx v))
-command_step w.Failed = s.More p.Owner
-command_step w.Wrong = s.More p.Command
+abbrev pub command_step : Result ℕ NoReply → ClaimStep
+command_step (Ok v) = s.More (p.Write (without_intx v))
+command_step (Err Failed) = s.More p.Owner
+command_step (Err Wrong) = s.More p.Command
 
-abbrev pub wrote_step : ℕ → DoneReply → ClaimStep
-wrote_step v o.Done = s.More p.Owner
-wrote_step v o.Failed = s.More p.Owner
-wrote_step v o.Wrong = s.More (p.Write v)
+abbrev pub wrote_step : ℕ → Result (Unit {0}) NoReply → ClaimStep
+wrote_step v (Ok _) = s.More p.Owner
+wrote_step v (Err Failed) = s.More p.Owner
+wrote_step v (Err Wrong) = s.More (p.Write v)
 
-abbrev pub owner_step : DwordReply → ClaimStep
-owner_step (d.Got v) = pick (eqb (swap_of v) 0) (s.Ended r.Good) (s.Ended r.Refused)
-owner_step d.Failed = s.Ended r.Refused
-owner_step d.Wrong = s.More p.Owner
+abbrev pub owner_step : Result ℕ NoReply → ClaimStep
+owner_step (Ok v) = pick (eqb (swap_of v) 0) (s.Ended r.Good) (s.Ended r.Refused)
+owner_step (Err Failed) = s.Ended r.Refused
+owner_step (Err Wrong) = s.More p.Owner
 
 abbrev pub claim_step_at : Answer → Claim → ClaimStep
 claim_step_at a p.Command = command_step (word_of a)

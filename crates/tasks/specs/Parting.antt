@@ -1,5 +1,5 @@
 -- Release, restore, and the tail of quiesce, as scripts and as the steps of one machine. The Rust's `release`, `restore` and `quiesce`; no failure is refused.
-use Rattle.std.specs.Prelude.{ℕ, ◌-◌, List}
+use Rattle.std.specs.Prelude.{ℕ, ◌-◌, List, Result, Ok, Err, Bool, true, false}
 use Rattle.fields.specs.Outcome.{pick}
 use Rattle.hcr.specs.Words.{bit, swap_of}
 use Rattle.pci.specs.Views.{word_of, qword_of, done_of, told_of}
@@ -8,14 +8,8 @@ use Rattle.pci.specs.Machine.{Next, more, ended, Follows}
 use Rattle.pci.specs.declared.Question.{Question}
 use Rattle.pci.specs.declared.Question.TheVariants as q
 use Rattle.pci.specs.declared.Answer.{Answer}
-use Rattle.pci.specs.declared.WordReply.{WordReply}
-use Rattle.pci.specs.declared.WordReply.TheVariants as w
-use Rattle.pci.specs.declared.QwordReply.{QwordReply}
-use Rattle.pci.specs.declared.QwordReply.TheVariants as x
-use Rattle.pci.specs.declared.DoneReply.{DoneReply}
-use Rattle.pci.specs.declared.DoneReply.TheVariants as o
-use Rattle.pci.specs.declared.ToldReply.{ToldReply}
-use Rattle.pci.specs.declared.ToldReply.TheVariants as t
+use Rattle.pci.specs.declared.NoReply.{NoReply}
+use Rattle.pci.specs.declared.NoReply.TheVariants.{Failed, Wrong}
 use Rattle.tasks.specs.declared.Parting.{Parting}
 use Rattle.tasks.specs.declared.Parting.TheVariants as p
 use Rattle.tasks.specs.declared.PartingStep.{PartingStep}
@@ -64,30 +58,30 @@ part_asks p.Owner = q.RegWrite 0 0x8069c (swap_of 0)
 part_asks p.Command = q.ConfigRead16 0x04
 part_asks (p.Write v) = q.ConfigWrite16 0x04 v
 
-abbrev pub disown_step : DoneReply → PartingStep
-disown_step o.Done = s.More p.Settle
-disown_step o.Failed = s.Ended
-disown_step o.Wrong = s.More p.Disown
+abbrev pub disown_step : Result (Unit {0}) NoReply → PartingStep
+disown_step (Ok _) = s.More p.Settle
+disown_step (Err Failed) = s.Ended
+disown_step (Err Wrong) = s.More p.Disown
 
-abbrev pub settle_step : ToldReply → PartingStep
-settle_step t.Told = s.Ended
-settle_step t.Wrong = s.More p.Settle
+abbrev pub settle_step : Bool → PartingStep
+settle_step true = s.Ended
+settle_step false = s.More p.Settle
 
-abbrev pub restore_step : ℕ → QwordReply → PartingStep
-restore_step v (x.Got y) = s.Ended
-restore_step v x.Failed = s.Ended
-restore_step v x.Wrong = s.More (p.Restore v)
+abbrev pub restore_step : ℕ → Result ℕ NoReply → PartingStep
+restore_step v (Ok y) = s.Ended
+restore_step v (Err Failed) = s.Ended
+restore_step v (Err Wrong) = s.More (p.Restore v)
 
-abbrev pub command_step : WordReply → PartingStep
-command_step (w.Got v) = s.More (p.Write (without_master v))
-command_step w.Failed = s.Ended
-command_step w.Wrong = s.More p.Command
+abbrev pub command_step : Result ℕ NoReply → PartingStep
+command_step (Ok v) = s.More (p.Write (without_master v))
+command_step (Err Failed) = s.Ended
+command_step (Err Wrong) = s.More p.Command
 
 -- a write whose failure is passed over
-abbrev pub wrote_step : Parting → PartingStep → DoneReply → PartingStep
-wrote_step k next o.Done = next
-wrote_step k next o.Failed = next
-wrote_step k next o.Wrong = s.More k
+abbrev pub wrote_step : Parting → PartingStep → Result (Unit {0}) NoReply → PartingStep
+wrote_step k next (Ok _) = next
+wrote_step k next (Err Failed) = next
+wrote_step k next (Err Wrong) = s.More k
 
 abbrev pub part_step_at : Answer → Parting → PartingStep
 part_step_at a p.Disown = disown_step (done_of a)

@@ -7,7 +7,7 @@ ghost use Rattle.tasks.specs.Claim.{without_intx, command_step, wrote_step, owne
 ghost use Rattle.tasks.specs.Parting.{without_master, disown_step, settle_step, restore_step, part_asks, part_step_of};
 ghost use Rattle.tasks.specs.Parting as e;
 
-use pci::{Answer, DoneReply, DwordReply, Question, QwordReply, ToldReply, WordReply};
+use pci::{Answer, NoReply, Question};
 
 // The attributes are enabled, with those that were there before; or 1.
 #[derive(Clone, Copy)]
@@ -114,35 +114,35 @@ fn wants(supported: u64) -> u64
 }
 
 // The attributes that were there before.
-fn got(r: QwordReply) -> AttrStep
+fn got(r: Result<u64, NoReply>) -> AttrStep
     ensures { result ≡ got_step r }
 {
     match r {
-        QwordReply::Got(v) => AttrStep::More(Attr::Supported(v)),
-        QwordReply::Failed => AttrStep::Ended(Attributes::Refused),
-        QwordReply::Wrong => AttrStep::More(Attr::Get),
+        Ok(v) => AttrStep::More(Attr::Supported(v)),
+        Err(NoReply::Failed) => AttrStep::Ended(Attributes::Refused),
+        Err(NoReply::Wrong) => AttrStep::More(Attr::Get),
     }
 }
 
 // Those that the device supports; none where it does not say.
-fn supports(before: u64, r: QwordReply) -> AttrStep
+fn supports(before: u64, r: Result<u64, NoReply>) -> AttrStep
     ensures { result ≡ supported_step before r }
 {
     match r {
-        QwordReply::Got(v) => AttrStep::More(Attr::Enable(before, wants(v))),
-        QwordReply::Failed => AttrStep::More(Attr::Enable(before, wants(0))),
-        QwordReply::Wrong => AttrStep::More(Attr::Supported(before)),
+        Ok(v) => AttrStep::More(Attr::Enable(before, wants(v))),
+        Err(NoReply::Failed) => AttrStep::More(Attr::Enable(before, wants(0))),
+        Err(NoReply::Wrong) => AttrStep::More(Attr::Supported(before)),
     }
 }
 
 // The attributes were enabled, or not.
-fn enables(before: u64, value: u64, r: QwordReply) -> AttrStep
+fn enables(before: u64, value: u64, r: Result<u64, NoReply>) -> AttrStep
     ensures { result ≡ enable_step before value r }
 {
     match r {
-        QwordReply::Got(_) => AttrStep::Ended(Attributes::Enabled(before)),
-        QwordReply::Failed => AttrStep::Ended(Attributes::Refused),
-        QwordReply::Wrong => AttrStep::More(Attr::Enable(before, value)),
+        Ok(_) => AttrStep::Ended(Attributes::Enabled(before)),
+        Err(NoReply::Failed) => AttrStep::Ended(Attributes::Refused),
+        Err(NoReply::Wrong) => AttrStep::More(Attr::Enable(before, value)),
     }
 }
 
@@ -181,40 +181,39 @@ fn no_intx(v: u16) -> u16
 }
 
 // The command word was read, or not.
-fn command(r: WordReply) -> ClaimStep
+fn command(r: Result<u16, NoReply>) -> ClaimStep
     ensures { result ≡ command_step r }
 {
     match r {
-        WordReply::Got(v) => ClaimStep::More(Claim::Write(no_intx(v))),
-        WordReply::Failed => ClaimStep::More(Claim::Owner),
-        WordReply::Wrong => ClaimStep::More(Claim::Command),
+        Ok(v) => ClaimStep::More(Claim::Write(no_intx(v))),
+        Err(NoReply::Failed) => ClaimStep::More(Claim::Owner),
+        Err(NoReply::Wrong) => ClaimStep::More(Claim::Command),
     }
 }
 
 // The command word was written, or not.
-fn wrote(v: u16, r: DoneReply) -> ClaimStep
+fn wrote(v: u16, r: Result<(), NoReply>) -> ClaimStep
     ensures { result ≡ wrote_step v r }
 {
     match r {
-        DoneReply::Done => ClaimStep::More(Claim::Owner),
-        DoneReply::Failed => ClaimStep::More(Claim::Owner),
-        DoneReply::Wrong => ClaimStep::More(Claim::Write(v)),
+        Ok(()) | Err(NoReply::Failed) => ClaimStep::More(Claim::Owner),
+        Err(NoReply::Wrong) => ClaimStep::More(Claim::Write(v)),
     }
 }
 
 // The owner register: 0 is nobody.
-fn owner(r: DwordReply) -> ClaimStep
+fn owner(r: Result<u32, NoReply>) -> ClaimStep
     ensures { result ≡ owner_step r }
 {
     match r {
-        DwordReply::Got(x) => {
+        Ok(x) => {
             if hcr::swap(x) == 0 {
                 return ClaimStep::Ended(Claimed::Good);
             }
             ClaimStep::Ended(Claimed::Refused)
         }
-        DwordReply::Failed => ClaimStep::Ended(Claimed::Refused),
-        DwordReply::Wrong => ClaimStep::More(Claim::Owner),
+        Err(NoReply::Failed) => ClaimStep::Ended(Claimed::Refused),
+        Err(NoReply::Wrong) => ClaimStep::More(Claim::Owner),
     }
 }
 
@@ -253,54 +252,52 @@ fn no_master(v: u16) -> u16
 }
 
 // The owner was written on release, or not.
-fn disowned(r: DoneReply) -> PartingStep
+fn disowned(r: Result<(), NoReply>) -> PartingStep
     ensures { result ≡ disown_step r }
 {
     match r {
-        DoneReply::Done => PartingStep::More(Parting::Settle),
-        DoneReply::Failed => PartingStep::Ended,
-        DoneReply::Wrong => PartingStep::More(Parting::Disown),
+        Ok(()) => PartingStep::More(Parting::Settle),
+        Err(NoReply::Failed) => PartingStep::Ended,
+        Err(NoReply::Wrong) => PartingStep::More(Parting::Disown),
     }
 }
 
-fn settled(r: ToldReply) -> PartingStep
-    ensures { result ≡ settle_step r }
+fn settled(told: bool) -> PartingStep
+    ensures { result ≡ settle_step told }
 {
-    match r {
-        ToldReply::Told => PartingStep::Ended,
-        ToldReply::Wrong => PartingStep::More(Parting::Settle),
+    if told {
+        return PartingStep::Ended;
     }
+    PartingStep::More(Parting::Settle)
 }
 
-fn restored(before: u64, r: QwordReply) -> PartingStep
+fn restored(before: u64, r: Result<u64, NoReply>) -> PartingStep
     ensures { result ≡ restore_step before r }
 {
     match r {
-        QwordReply::Got(_) => PartingStep::Ended,
-        QwordReply::Failed => PartingStep::Ended,
-        QwordReply::Wrong => PartingStep::More(Parting::Restore(before)),
+        Ok(_) | Err(NoReply::Failed) => PartingStep::Ended,
+        Err(NoReply::Wrong) => PartingStep::More(Parting::Restore(before)),
     }
 }
 
 // The command word was read at the end of quiesce, or not.
-fn commanded(r: WordReply) -> PartingStep
+fn commanded(r: Result<u16, NoReply>) -> PartingStep
     ensures { result ≡ e.command_step r }
 {
     match r {
-        WordReply::Got(v) => PartingStep::More(Parting::Write(no_master(v))),
-        WordReply::Failed => PartingStep::Ended,
-        WordReply::Wrong => PartingStep::More(Parting::Command),
+        Ok(v) => PartingStep::More(Parting::Write(no_master(v))),
+        Err(NoReply::Failed) => PartingStep::Ended,
+        Err(NoReply::Wrong) => PartingStep::More(Parting::Command),
     }
 }
 
 // A write whose failure is passed over.
-fn passed(k: Parting, next: PartingStep, r: DoneReply) -> PartingStep
+fn passed(k: Parting, next: PartingStep, r: Result<(), NoReply>) -> PartingStep
     ensures { result ≡ e.wrote_step k next r }
 {
     match r {
-        DoneReply::Done => next,
-        DoneReply::Failed => next,
-        DoneReply::Wrong => PartingStep::More(k),
+        Ok(()) | Err(NoReply::Failed) => next,
+        Err(NoReply::Wrong) => PartingStep::More(k),
     }
 }
 

@@ -1,5 +1,5 @@
 -- The search as steps by value: the question of each state, what an answer makes of it, and the script that is left.
-use Rattle.std.specs.Prelude.{ℕ, zero, suc, ◌+◌, ◌*◌, List, set, replicate, Option, Some, None, Ok, Err}
+use Rattle.std.specs.Prelude.{ℕ, zero, suc, ◌+◌, ◌*◌, List, set, replicate, Option, Some, None, Result, Ok, Err}
 use Rattle.fields.specs.Outcome.{Outcome, value, refused}
 use Rattle.bars.specs.Resource.{Answer as Listed, resource_at}
 use Rattle.bars.specs.Choose.{others_from}
@@ -15,10 +15,8 @@ use Rattle.pci.specs.Machine as m
 use Rattle.pci.specs.declared.Question.{Question}
 use Rattle.pci.specs.declared.Question.TheVariants as q
 use Rattle.pci.specs.declared.Answer.{Answer}
-use Rattle.pci.specs.declared.DwordReply.{DwordReply}
-use Rattle.pci.specs.declared.DwordReply.TheVariants as d
-use Rattle.pci.specs.declared.ListReply.{ListReply}
-use Rattle.pci.specs.declared.ListReply.TheVariants as l
+use Rattle.pci.specs.declared.NoReply.{NoReply}
+use Rattle.pci.specs.declared.NoReply.TheVariants.{Failed, Wrong}
 use Rattle.uar.specs.Uar.{Found, range_from, other, scan, second, choosing, dword_at, reading}
 use Rattle.uar.specs.declared.NotFound.TheVariants as f
 use Rattle.uar.specs.declared.BarPhase.{BarPhase}
@@ -49,10 +47,10 @@ abbrev pub bar_asks : FindBar → Question
 bar_asks s = asks_at s.phase
 
 -- THE STEPS
-abbrev pub read_move : (n : ℕ) → DwordReply → BarMove
-read_move n (d.Got x) = v.Save n x
-read_move n d.Failed = v.End (Err f.Refused)
-read_move n d.Wrong = v.Stay
+abbrev pub read_move : (n : ℕ) → Result ℕ NoReply → BarMove
+read_move n (Ok x) = v.Save n x
+read_move n (Err Failed) = v.End (Err f.Refused)
+read_move n (Err Wrong) = v.Stay
 
 abbrev pub led_of : Next → BarMove
 led_of (n.Ask i c) = v.To c
@@ -63,10 +61,10 @@ abbrev pub list_move : Choice → Listed → BarMove
 list_move c (value r) = led_of (step_of c (range_from r))
 list_move c (refused i vs) = v.End (Err f.BadList)
 
-abbrev pub choice_move : Choice → (bytes : List ℕ) → ListReply → BarMove
-choice_move c bytes l.Got = list_move c (resource_at bytes)
-choice_move c bytes l.Failed = led_of (step_of c None)
-choice_move c bytes l.Wrong = v.Stay
+abbrev pub choice_move : Choice → (bytes : List ℕ) → Result (Unit {0}) NoReply → BarMove
+choice_move c bytes (Ok _) = list_move c (resource_at bytes)
+choice_move c bytes (Err Failed) = led_of (step_of c None)
+choice_move c bytes (Err Wrong) = v.Stay
 
 abbrev pub move_at : Answer → (bytes : List ℕ) → BarPhase → BarMove
 move_at a bytes (p.Reading n) = read_move n (dword_of a)

@@ -8,7 +8,7 @@ ghost use Rattle.uar.specs.Steps.{started, index_of, bar_asks, read_move, led_of
 ghost use Rattle.uar.specs.Steps.{move_at, begins, read_on, moved_of, bar_step_of};
 
 use bars::{Asking, Choice, Pick};
-use pci::{Answer, DwordReply, ListReply, Question};
+use pci::{Answer, NoReply, Question};
 
 // Why no index was picked: 4; or 27, a resource list that is damaged or cut.
 #[derive(Clone, Copy)]
@@ -75,13 +75,13 @@ fn index_of(c: Choice) -> u8
 }
 
 // A BAR dword.
-fn read(n: u8, r: DwordReply) -> BarMove
+fn read(n: u8, r: Result<u32, NoReply>) -> BarMove
     ensures { result ≡ read_move n r }
 {
     match r {
-        DwordReply::Got(x) => BarMove::Save(n, x),
-        DwordReply::Failed => BarMove::End(Err(NotFound::Refused)),
-        DwordReply::Wrong => BarMove::Stay,
+        Ok(x) => BarMove::Save(n, x),
+        Err(NoReply::Failed) => BarMove::End(Err(NotFound::Refused)),
+        Err(NoReply::Wrong) => BarMove::Stay,
     }
 }
 
@@ -107,13 +107,13 @@ fn listed(c: Choice, bytes: &[u8]) -> BarMove
 }
 
 // What is said about an index, with the resource list beside it.
-fn choice(c: Choice, r: ListReply, bytes: &[u8]) -> BarMove
+fn choice(c: Choice, r: Result<(), NoReply>, bytes: &[u8]) -> BarMove
     ensures { result ≡ choice_move c bytes.now r }
 {
     match r {
-        ListReply::Got => listed(c, bytes),
-        ListReply::Failed => led(bars::step(c, None)),
-        ListReply::Wrong => BarMove::Stay,
+        Ok(()) => listed(c, bytes),
+        Err(NoReply::Failed) => led(bars::step(c, None)),
+        Err(NoReply::Wrong) => BarMove::Stay,
     }
 }
 

@@ -1,5 +1,5 @@
 -- The tasks of a session as one machine: the question of each, what an answer makes of it, and the script that is left.
-use Rattle.std.specs.Prelude.{ℕ, Bool, true, false, List, ◌≡◌, Option, Some, None}
+use Rattle.std.specs.Prelude.{ℕ, Bool, true, false, List, ◌≡◌, Option, Some, None, Result, Ok, Err}
 use Rattle.hcr.specs.Words.{register, first_toggle, swap_of}
 use Rattle.pci.specs.Views.{dword_of}
 use Rattle.pci.specs.Script.{Script, ret, ask, ◌>>=◌, Bus, good, failed, read}
@@ -8,8 +8,8 @@ use Rattle.pci.specs.Machine as m
 use Rattle.pci.specs.declared.Question.{Question}
 use Rattle.pci.specs.declared.Question.TheVariants as q
 use Rattle.pci.specs.declared.Answer.{Answer}
-use Rattle.pci.specs.declared.DwordReply.{DwordReply}
-use Rattle.pci.specs.declared.DwordReply.TheVariants as d
+use Rattle.pci.specs.declared.NoReply.{NoReply}
+use Rattle.pci.specs.declared.NoReply.TheVariants.{Failed, Wrong}
 use Rattle.command.specs.Machine.{cmd_asks, cmd_step_of, cmd_script}
 use Rattle.command.specs.declared.CmdStep.{CmdStep}
 use Rattle.command.specs.declared.CmdStep.TheVariants as cs
@@ -97,10 +97,10 @@ abbrev pub part_work : Work → PartingStep → WorkStep
 part_work w (ps.More k) = on_task w (t.Part k)
 part_work w ps.Ended = end_task w e.Parted
 
-abbrev pub look_step : Work → DwordReply → WorkStep
-look_step w (d.Got v) = end_task w (e.Looked (first_toggle (swap_of v)))
-look_step w d.Failed = end_task w (e.Looked true)
-look_step w d.Wrong = on_task w t.Look
+abbrev pub look_step : Work → Result ℕ NoReply → WorkStep
+look_step w (Ok v) = end_task w (e.Looked (first_toggle (swap_of v)))
+look_step w (Err Failed) = end_task w (e.Looked true)
+look_step w (Err Wrong) = on_task w t.Look
 
 abbrev pub reset_on : Work → Reset → ResetEnding → WorkStep
 reset_on w r rg.Going = record { work = working t.Reset r w.find; ending = g.Going }

@@ -9,7 +9,7 @@ use bars::Pick;
 use buffer::{FreeStep, Freeing, Made, MakeStep, Making};
 use command::{Cmd, CmdEnd, CmdStep};
 use hcr::Hcr;
-use pci::{Answer, DwordReply, Question};
+use pci::{Answer, NoReply, Question};
 use reset::{Reset, ResetEnd};
 use tasks::{Attr, AttrStep, Attributes, Claim, ClaimStep, Claimed, Parting, PartingStep};
 use uar::{FindBar, NotFound};
@@ -173,13 +173,13 @@ impl Work {
     }
 
     // The toggle from the status dword, or 1 where that cannot be read.
-    fn look(self, r: DwordReply) -> WorkStep
+    fn look(self, r: Result<u32, NoReply>) -> WorkStep
         ensures { result ≡ look_step self r }
     {
         match r {
-            DwordReply::Got(v) => self.end(End::Looked(hcr::first_toggle(hcr::swap(v)))),
-            DwordReply::Failed => self.end(End::Looked(true)),
-            DwordReply::Wrong => self.on(Task::Look),
+            Ok(v) => self.end(End::Looked(hcr::first_toggle(hcr::swap(v)))),
+            Err(NoReply::Failed) => self.end(End::Looked(true)),
+            Err(NoReply::Wrong) => self.on(Task::Look),
         }
     }
 

@@ -1,7 +1,7 @@
 -- WRONG ANSWERS. A contract is an equation of the answer with a definition, so a function that answers otherwise at one input does not meet it. A row has what the definition
 -- gives at an input, as numbers, and two answers that a wrong function would give there. The theorem `wrong_refused` of proofs/ says that neither is the definition's.
 use Rattle.std.specs.Prelude as std
-use Rattle.std.specs.Prelude.{ℕ, ◌-◌, ◌^◌, Bool, true, false, List, [], ◌∷◌, ◌++◌, ◌≡◌, eqb, length, replicate, get_or, take, leb}
+use Rattle.std.specs.Prelude.{ℕ, ◌-◌, ◌^◌, Bool, true, false, List, [], ◌∷◌, ◌++◌, ◌≡◌, eqb, length, replicate, get_or, take, leb, Result, Ok, Err}
 use Rattle.std.proofs.Math.Option.{Option, some, none}
 use Rattle.fields.specs.Outcome.{Outcome, value, refused, number_of, pick}
 use Rattle.fields.specs.Fields.{fits, field_at, write_at, written_at, put_at}
@@ -40,22 +40,8 @@ use Rattle.pci.specs.declared.Answer.{Answer}
 use Rattle.pci.specs.declared.Answer.TheVariants as a
 use Rattle.pci.specs.declared.Refusal.{Refusal}
 use Rattle.pci.specs.declared.Refusal.TheVariants as r
-use Rattle.pci.specs.declared.WordReply.{WordReply}
-use Rattle.pci.specs.declared.WordReply.TheVariants as wordV
-use Rattle.pci.specs.declared.DwordReply.{DwordReply}
-use Rattle.pci.specs.declared.DwordReply.TheVariants as dwordV
-use Rattle.pci.specs.declared.QwordReply.{QwordReply}
-use Rattle.pci.specs.declared.QwordReply.TheVariants as qwordV
-use Rattle.pci.specs.declared.DoneReply.{DoneReply}
-use Rattle.pci.specs.declared.DoneReply.TheVariants as doneV
-use Rattle.pci.specs.declared.ToldReply.{ToldReply}
-use Rattle.pci.specs.declared.ToldReply.TheVariants as toldV
-use Rattle.pci.specs.declared.HandleReply.{HandleReply}
-use Rattle.pci.specs.declared.HandleReply.TheVariants as grantedV
-use Rattle.pci.specs.declared.MapReply.{MapReply}
-use Rattle.pci.specs.declared.MapReply.TheVariants as mappedV
-use Rattle.pci.specs.declared.ListReply.{ListReply}
-use Rattle.pci.specs.declared.ListReply.TheVariants as listV
+use Rattle.pci.specs.declared.NoReply.{NoReply}
+use Rattle.pci.specs.declared.NoReply.TheVariants.{Failed, Wrong}
 
 -- answers as numbers: 0 and the value, or the refusal's number and values
 abbrev pub told : Outcome ℕ → List ℕ
@@ -518,64 +504,43 @@ choices =
 abbrev kinds : (Answer → List ℕ) → List ℕ
 kinds f = f (a.Word 5) ++ f (a.Dword 6) ++ f (a.Qword 7) ++ f a.Done ++ f a.Failed ++ f (a.Handle 8) ++ f (a.Mapped 9 10) ++ f a.List
 
-abbrev pub told_word : WordReply → List ℕ
-told_word (wordV.Got x) = 0 ∷ x ∷ []
-told_word wordV.Failed = 1 ∷ []
-told_word wordV.Wrong = 20 ∷ []
+abbrev pub told_reply : {A : Type 0} → (A → List ℕ) → Result A NoReply → List ℕ
+told_reply f (Ok x) = 0 ∷ f x
+told_reply f (Err Failed) = 1 ∷ []
+told_reply f (Err Wrong) = 20 ∷ []
 
-abbrev pub told_dword : DwordReply → List ℕ
-told_dword (dwordV.Got x) = 0 ∷ x ∷ []
-told_dword dwordV.Failed = 1 ∷ []
-told_dword dwordV.Wrong = 20 ∷ []
+abbrev pub told_number : Result ℕ NoReply → List ℕ
+told_number r = told_reply (λ n. n ∷ []) r
 
-abbrev pub told_qword : QwordReply → List ℕ
-told_qword (qwordV.Got x) = 0 ∷ x ∷ []
-told_qword qwordV.Failed = 1 ∷ []
-told_qword qwordV.Wrong = 20 ∷ []
+abbrev pub told_done : Result (Unit {0}) NoReply → List ℕ
+told_done r = told_reply (λ u. []) r
 
-abbrev pub told_done : DoneReply → List ℕ
-told_done doneV.Done = 0 ∷ []
-told_done doneV.Failed = 1 ∷ []
-told_done doneV.Wrong = 20 ∷ []
+abbrev pub told_told : Bool → List ℕ
+told_told true = 0 ∷ []
+told_told false = 20 ∷ []
 
-abbrev pub told_told : ToldReply → List ℕ
-told_told toldV.Told = 0 ∷ []
-told_told toldV.Wrong = 20 ∷ []
-
-abbrev pub told_handle : HandleReply → List ℕ
-told_handle (grantedV.Got x) = 0 ∷ x ∷ []
-told_handle grantedV.Failed = 1 ∷ []
-told_handle grantedV.Wrong = 20 ∷ []
-
-abbrev pub told_map : MapReply → List ℕ
-told_map (mappedV.Got x y) = 0 ∷ x ∷ y ∷ []
-told_map mappedV.Failed = 1 ∷ []
-told_map mappedV.Wrong = 20 ∷ []
-
-abbrev pub told_list : ListReply → List ℕ
-told_list listV.Got = 0 ∷ []
-told_list listV.Failed = 1 ∷ []
-told_list listV.Wrong = 20 ∷ []
+abbrev pub told_map : Result (ℕ × ℕ) NoReply → List ℕ
+told_map r = told_reply (λ (x, y). x ∷ y ∷ []) r
 
 -- pci: what an answer says to a question of each kind
 abbrev pub views : List Row
 views =
     -- as_word: a dword is taken; failed told as ones
-    row (kinds (λ x. told_word (word_of x))) (0 ∷ 5 ∷ 0 ∷ 6 ∷ 20 ∷ 20 ∷ 1 ∷ 20 ∷ 20 ∷ 20 ∷ []) (0 ∷ 5 ∷ 20 ∷ 20 ∷ 20 ∷ 0 ∷ 0xffff ∷ 20 ∷ 20 ∷ 20 ∷ []) ∷
+    row (kinds (λ x. told_number (word_of x))) (0 ∷ 5 ∷ 0 ∷ 6 ∷ 20 ∷ 20 ∷ 1 ∷ 20 ∷ 20 ∷ 20 ∷ []) (0 ∷ 5 ∷ 20 ∷ 20 ∷ 20 ∷ 0 ∷ 0xffff ∷ 20 ∷ 20 ∷ 20 ∷ []) ∷
     -- as_dword: a word is taken; failed told as ones
-    row (kinds (λ x. told_dword (dword_of x))) (0 ∷ 5 ∷ 0 ∷ 6 ∷ 20 ∷ 20 ∷ 1 ∷ 20 ∷ 20 ∷ 20 ∷ []) (20 ∷ 0 ∷ 6 ∷ 20 ∷ 20 ∷ 0 ∷ 0xffffffff ∷ 20 ∷ 20 ∷ 20 ∷ []) ∷
+    row (kinds (λ x. told_number (dword_of x))) (0 ∷ 5 ∷ 0 ∷ 6 ∷ 20 ∷ 20 ∷ 1 ∷ 20 ∷ 20 ∷ 20 ∷ []) (20 ∷ 0 ∷ 6 ∷ 20 ∷ 20 ∷ 0 ∷ 0xffffffff ∷ 20 ∷ 20 ∷ 20 ∷ []) ∷
     -- as_qword: a dword told as failed; done taken for 0
-    row (kinds (λ x. told_qword (qword_of x))) (20 ∷ 1 ∷ 0 ∷ 7 ∷ 20 ∷ 1 ∷ 20 ∷ 20 ∷ 20 ∷ []) (20 ∷ 20 ∷ 0 ∷ 7 ∷ 0 ∷ 0 ∷ 1 ∷ 20 ∷ 20 ∷ 20 ∷ []) ∷
+    row (kinds (λ x. told_number (qword_of x))) (20 ∷ 1 ∷ 0 ∷ 7 ∷ 20 ∷ 1 ∷ 20 ∷ 20 ∷ 20 ∷ []) (20 ∷ 20 ∷ 0 ∷ 7 ∷ 0 ∷ 0 ∷ 1 ∷ 20 ∷ 20 ∷ 20 ∷ []) ∷
     -- as_done: failed counts as done; a dword does
     row (kinds (λ x. told_done (done_of x))) (20 ∷ 20 ∷ 20 ∷ 0 ∷ 0 ∷ 20 ∷ 20 ∷ 20 ∷ []) (20 ∷ 0 ∷ 20 ∷ 0 ∷ 1 ∷ 20 ∷ 20 ∷ 20 ∷ []) ∷
     -- as_told: failed counts as done; failed is told
     row (kinds (λ x. told_told (told_of x))) (20 ∷ 20 ∷ 20 ∷ 0 ∷ 0 ∷ 20 ∷ 20 ∷ 20 ∷ []) (20 ∷ 20 ∷ 20 ∷ 0 ∷ 1 ∷ 20 ∷ 20 ∷ 20 ∷ []) ∷
     -- as_handle: a qword is taken; a mapping's address
-    row (kinds (λ x. told_handle (granted_of x))) (20 ∷ 20 ∷ 0 ∷ 7 ∷ 20 ∷ 1 ∷ 0 ∷ 8 ∷ 20 ∷ 20 ∷ []) (20 ∷ 20 ∷ 20 ∷ 20 ∷ 1 ∷ 0 ∷ 8 ∷ 0 ∷ 9 ∷ 20 ∷ []) ∷
+    row (kinds (λ x. told_number (granted_of x))) (20 ∷ 20 ∷ 0 ∷ 7 ∷ 20 ∷ 1 ∷ 0 ∷ 8 ∷ 20 ∷ 20 ∷ []) (20 ∷ 20 ∷ 20 ∷ 20 ∷ 1 ∷ 0 ∷ 8 ∷ 0 ∷ 9 ∷ 20 ∷ []) ∷
     -- as_map: address and bytes exchanged; a handle is taken
     row (kinds (λ x. told_map (mapped_of x))) (20 ∷ 20 ∷ 20 ∷ 20 ∷ 1 ∷ 20 ∷ 0 ∷ 10 ∷ 9 ∷ 20 ∷ []) (20 ∷ 20 ∷ 20 ∷ 20 ∷ 1 ∷ 0 ∷ 8 ∷ 0 ∷ 0 ∷ 9 ∷ 10 ∷ 20 ∷ []) ∷
     -- as_list: done is taken; failed is
-    row (kinds (λ x. told_list (list_of x))) (20 ∷ 20 ∷ 20 ∷ 0 ∷ 1 ∷ 20 ∷ 20 ∷ 0 ∷ []) (20 ∷ 20 ∷ 20 ∷ 20 ∷ 0 ∷ 20 ∷ 20 ∷ 0 ∷ []) ∷
+    row (kinds (λ x. told_done (list_of x))) (20 ∷ 20 ∷ 20 ∷ 0 ∷ 1 ∷ 20 ∷ 20 ∷ 0 ∷ []) (20 ∷ 20 ∷ 20 ∷ 20 ∷ 0 ∷ 20 ∷ 20 ∷ 0 ∷ []) ∷
     []
 
 -- the number of each refusal, in the order of document 01

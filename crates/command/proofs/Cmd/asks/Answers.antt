@@ -1,6 +1,5 @@
 use Prim.Native.Nat.{ℕ, ◌*◌}
 use mathlib.Core.Path.{ap, sym, ◌∙◌}
-use borrow.Author.Rules.{rules}
 use Rattle.hcr.specs.Words.{register, swap_of}
 use Rattle.pci.specs.declared.Question.TheVariants.{RegWrite, Stall}
 use Rattle.command.specs.Machine.{cmd_asks, phase_asks, word_at}

@@ -1,5 +1,4 @@
 use mathlib.Core.Path.{ap, sym, ◌∙◌}
-use borrow.Author.Rules.{rules}
 use Rattle.command.specs.Machine.{cmd_step_of, phase_step}
 use Rattle.command.proofs.Cmd.step.Goals as goal
 

@@ -1,5 +1,0 @@
-use borrow.Author.Rules.{rules}
-use Rattle.booking.proofs.map.Goals as goal
-
-pub returns-in-Got : goal.returns-in-Got
-returns-in-Got c = rw c.in-Got.is

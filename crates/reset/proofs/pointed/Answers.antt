@@ -1,8 +1,0 @@
-use borrow.Author.Rules.{rules}
-use Rattle.reset.proofs.pointed.Goals as goal
-
-pub returns-in-Got : goal.returns-in-Got
-returns-in-Got c = simp (c.in-Got.is, c.pointer_in.ensures, c.walk.ensures)
-
-pub returns-in-Failed : goal.returns-in-Failed
-returns-in-Failed c = simp c.in-Failed.is

@@ -1,8 +1,0 @@
-use borrow.Author.Rules.{rules}
-use Rattle.reset.proofs.wrote.Goals as goal
-
-pub returns-in-Done : goal.returns-in-Done
-returns-in-Done c = simp c.in-Done.is
-
-pub returns-in-Failed : goal.returns-in-Failed
-returns-in-Failed c = simp c.in-Failed.is

@@ -1,5 +1,0 @@
-use borrow.Author.Rules.{rules}
-use Rattle.tasks.proofs.restored.Goals as goal
-
-pub returns-in-Wrong : goal.returns-in-Wrong
-returns-in-Wrong c = simp c.in-Wrong.is
