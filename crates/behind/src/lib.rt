@@ -350,12 +350,10 @@ pub fn slots_stand(m: &[u8]) -> bool
     if m.len() < words::STATE_BYTES {
         return false;
     }
-    let mut i: usize = 0;
-    while i < Slot::COUNT {
+    for i in 0..Slot::COUNT {
         if !flag_stands(m, words::SLOTS_AT + i * words::SLOT + 5) {
             return false;
         }
-        i = i + 1;
     }
     true
 }

@@ -88,7 +88,7 @@ pub extern "C" fn hca_push_undo(
         in_mod,
         in_param,
     };
-    undo::push_undo(list, count, u).number()
+    undo::number(undo::push_undo(list, count, u))
 }
 
 // The question that is open: its kind and three values.

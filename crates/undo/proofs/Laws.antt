@@ -1,18 +1,17 @@
 -- Laws of the undo list: what a call takes of it, a turn and the end of the search, and where a pushed record has its place.
 use Prim.Native.Nat.{ℕ, suc, ◌+◌, ◌-◌, ◌<◌, ◌≤◌, min}
-use mathlib.Core.Path.{◌≡◌, refl, ap, sym, ◌∙◌, subst}
-use mathlib.Core.Bool.{Bool, true, false, ◌||◌, or_assoc, or-false, true≢false}
-use mathlib.Core.List.{List, [], ◌∷◌}
+use mathlib.Core.Path.{◌≡◌, refl, ap, sym, ◌∙◌}
+use mathlib.Core.Bool.{Bool, true, false, ◌||◌, true≢false}
+use mathlib.Core.List.{List, []}
 use mathlib.Core.Option as o
 use native.Mathlib.Omega.{arith}
 use lib.Dec.{ltb, eqb, eqb-suc-zero}
-use lib.ListN.{length, get_or, take, drop, length-take, drop_of_length-le}
-use lib.Seq.{drop-cons, get_or-take}
+use lib.ListN.{length, get_or}
 use borrow.Author.Tests.{ltb-false, eqb-false, le-ltb}
 use Rattle.fields.specs.Outcome.{Outcome, value, refused, pick}
 use Rattle.hcr.specs.Words.{is_reserved}
 use Rattle.session.specs.declared.Top.{Top}
-use Rattle.undo.specs.List.{none, pop_of, top_at, top_by, top_of, any_reserved, stored, push_of}
+use Rattle.undo.specs.List.{none, pop_of, top_at, top_by, top_of, stored, push_of}
 use Rattle.undo.specs.declared.Undo.{Undo}
 
 -- WHAT A CALL TAKES is what it takes of a pop
@@ -37,27 +36,6 @@ top_suc l n h few =
     let there : top_of l (suc n) ≡ top_at (suc n) (get_or l (suc n - 1) none) =
     simp (le-ltb (length l) (suc n) (omega arith), le-ltb 256 (suc n) (omega arith), eqb-suc-zero n) in
     there ∙ ap (λ (i : ℕ). top_at (suc n) (get_or l i none)) e
-
--- THE SEARCH: what was seen, and what is left to look at of the first n records
-abbrev pub Left : List Undo → (n i : ℕ) → Bool → Bool
-Left l n i seen = seen || any_reserved (drop i (take n l))
-
-pub left_more : (l : List Undo) (n i : ℕ) (seen : Bool) → i < min n (length l) → Left l n (i + 1) (seen || is_reserved (get_or l i none).op) ≡ Left l n i seen
-unfolding any_reserved
-left_more l n i seen h =
-    let t : List Undo = take n l in
-    let below : i < length t = subst (λ (m : ℕ). i < m) (sym (length-take n l)) h in
-    let same : get_or t i none ≡ get_or l i none = get_or-take n l i none (omega (arith, h)) in
-    let next : suc i ≡ i + 1 = omega arith in
-    let parted : drop i t ≡ get_or l i none ∷ drop (i + 1) t =
-    drop-cons t i none below ∙ ap (λ (u : Undo). u ∷ drop (suc i) t) same ∙ ap (λ (k : ℕ). get_or l i none ∷ drop k t) next in
-    or_assoc seen (is_reserved (get_or l i none).op) (any_reserved (drop (i + 1) t)) ∙ sym (ap (λ (us : List Undo). seen || any_reserved us) parted)
-
-pub left_last : (l : List Undo) (n i : ℕ) (seen : Bool) → min n (length l) ≤ i → Left l n i seen ≡ seen
-unfolding any_reserved
-left_last l n i seen h =
-    let over : length (take n l) ≤ i = subst (λ (m : ℕ). m ≤ i) (sym (length-take n l)) h in
-    ap (λ (us : List Undo). seen || any_reserved us) (drop_of_length-le (take n l) {i = i} over) ∙ or-false seen
 
 -- A PUSH: a record that is stored has a place below the length
 not_first : (b : Bool) (x y : Outcome ℕ) → stored x ≡ false → stored (pick b x y) ≡ true → (b ≡ false) × (stored y ≡ true)

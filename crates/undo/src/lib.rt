@@ -4,11 +4,10 @@
 // many are left.
 #![tactic(auto)]
 
-ghost use Rattle.std.specs.Prelude.{◌≡◌, ◌-◌, min, ◌||◌, length, get_or, take, drop};
+ghost use Rattle.std.specs.Prelude.{◌≡◌, ◌-◌, length, get_or, take, drop};
 ghost use Rattle.fields.specs.Outcome.{number_of};
-ghost use Rattle.hcr.specs.Words.{is_reserved};
 ghost use Rattle.undo.specs.List.{none, taken, pop_by, pop_of, top_by, top_of, any_reserved};
-ghost use Rattle.undo.specs.List.{outcome, stored, push_of, pushed_in};
+ghost use Rattle.undo.specs.List.{outcome, push_of, pushed_in};
 
 use session::Top;
 
@@ -25,84 +24,68 @@ pub struct Undo {
 // How many records a list holds at most.
 pub const MOST: usize = 256;
 
-// What a push gives: the new count; or 21 where the count is above 256, or the slice has no place
-// for the record; 22 for a reserved opcode; 19 where the list is full.
+// Why a record is not pushed: 21 where the count is above 256, or the slice has no place for the
+// record; 22 for a reserved opcode; 19 where the list is full.
 #[derive(Clone, Copy)]
-pub enum Pushed {
-    At(usize),
+pub enum PushError {
     Short,
     Opcode,
     Full,
 }
 
-impl Pushed {
-    // Document 01's number; 0 where the record was pushed.
-    pub fn number(self) -> u32
-        ensures { result ≡ number_of (outcome self) }
-    {
-        match self {
-            Pushed::At(_) => 0,
-            Pushed::Short => 21,
-            Pushed::Opcode => 22,
-            Pushed::Full => 19,
-        }
-    }
+// Why no record is popped: 21 where the count is above the slice or above 256.
+#[derive(Clone, Copy)]
+pub enum PopError {
+    Short,
 }
 
-// What a pop gives: the newest record, and how many are left below it; nothing of an empty list; or
-// 21 where the count is above the slice or above 256.
-#[derive(Clone, Copy)]
-pub enum Popped {
-    Newest(Undo, usize),
-    Empty,
-    Short,
+// Document 01's number of a push; 0 where the record was pushed.
+pub fn number(pushed: Result<usize, PushError>) -> u32
+    ensures { result ≡ number_of (outcome pushed) }
+{
+    match pushed {
+        Ok(_) => 0,
+        Err(PushError::Short) => 21,
+        Err(PushError::Opcode) => 22,
+        Err(PushError::Full) => 19,
+    }
 }
 
 // The record at a place; one of zeros past the end.
 fn record_at(list: &[Undo], i: usize) -> Undo
     ensures { result ≡ get_or list.now i none }
 {
-    if i < list.len() {
-        return list[i];
-    } else {
-        return Undo {
-            op: 0,
-            op_mod: 0,
-            in_mod: 0,
-            in_param: 0,
-        };
-    }
+    list.get(i).copied().unwrap_or(Undo {
+        op: 0,
+        op_mod: 0,
+        in_mod: 0,
+        in_param: 0,
+    })
 }
 
 // The place of the newest of so many records.
 fn last_place(count: usize) -> usize
     ensures { result ≡ count - 1 }
 {
-    if count == 0 {
-        return 0;
-    }
-    count - 1
+    count.saturating_sub(1)
 }
 
 // A pop by value: `u` is the record at the last place. An empty list is looked for first: it is
 // what most answers are lent.
-fn pop_by(len: usize, count: usize, u: Undo) -> Popped
+fn pop_by(len: usize, count: usize, u: Undo) -> Result<Option<(Undo, usize)>, PopError>
     ensures { taken result ≡ pop_by len count u }
 {
     if count == 0 {
-        return Popped::Empty;
+        return Ok(None);
     }
-    if len < count {
-        return Popped::Short;
+    if len < count || MOST < count {
+        return Err(PopError::Short);
     }
-    if MOST < count {
-        return Popped::Short;
-    }
-    Popped::Newest(u, count - 1)
+    Ok(Some((u, count - 1)))
 }
 
-// The newest record of the list, and how many are left once it is taken off.
-pub fn pop_undo(list: &[Undo], count: usize) -> Popped
+// The newest record of the list, and how many are left once it is taken off; none of an empty list.
+pub fn pop_undo(list: &[Undo], count: usize) -> Result<Option<(Undo, usize)>, PopError>
     ensures { taken result ≡ pop_of list.now count }
 {
     let u = record_at(list, last_place(count));
@@ -111,25 +94,25 @@ pub fn pop_undo(list: &[Undo], count: usize) -> Popped
 
 // What a call takes of a pop: the count as it is lent, and the newest record. A list that is none
 // counts 257, more than any list holds, so that every call refuses it with 21.
-fn top_by(count: usize, p: Popped) -> Top
+fn top_by(count: usize, p: Result<Option<(Undo, usize)>, PopError>) -> Top
     ensures { result ≡ top_by count (taken p) }
 {
     match p {
-        Popped::Newest(u, _) => Top {
+        Ok(Some((u, _))) => Top {
             count,
             op: u.op,
             op_mod: u.op_mod,
             in_mod: u.in_mod,
             in_param: u.in_param,
         },
-        Popped::Empty => Top {
+        Ok(None) => Top {
             count: 0,
             op: 0,
             op_mod: 0,
             in_mod: 0,
             in_param: 0,
         },
-        Popped::Short => Top {
+        Err(PopError::Short) => Top {
             count: MOST + 1,
             op: 0,
             op_mod: 0,
@@ -148,79 +131,41 @@ pub fn top(list: &[Undo], count: usize) -> Top
     top_by(count, p)
 }
 
-fn least(a: usize, b: usize) -> usize
-    ensures { result ≡ min a b }
-{
-    if a < b {
-        return a;
-    }
-    b
-}
-
-// A reserved opcode was seen already, or is this record's.
-fn turn(seen: bool, u: Undo) -> bool
-    ensures { result ≡ (seen || is_reserved u.op) }
-{
-    if seen {
-        return true;
-    }
-    hcr::reserved(u.op)
-}
-
 // Whether a record from the place `mark` on, and below the count, has a reserved opcode.
+#[tactic(auto, unfolding(crate::specs::List::any_reserved))]
 pub fn reserved_above(list: &[Undo], mark: usize, count: usize) -> bool
     ensures { result ≡ any_reserved (drop mark (take count list.now)) }
 {
-    let end = least(count, list.len());
-    let mut seen = false;
-    let mut i = mark;
-    while i < end {
-        let u = record_at(list, i);
-        seen = turn(seen, u);
-        i = i + 1;
-    }
-    seen
+    list.iter()
+        .take(count)
+        .skip(mark)
+        .any(|u| hcr::reserved(u.op))
 }
 
 // Where a record goes in a slice of this length. A full list asks for no place.
-fn place(len: usize, count: usize, op: u16) -> Pushed
+fn place(len: usize, count: usize, op: u16) -> Result<usize, PushError>
     ensures { outcome result ≡ push_of len count op }
 {
     if MOST < count {
-        return Pushed::Short;
+        return Err(PushError::Short);
     }
-    if len < least(count + 1, MOST) {
-        return Pushed::Short;
+    if len < (count + 1).min(MOST) {
+        return Err(PushError::Short);
     }
     if hcr::reserved(op) {
-        return Pushed::Opcode;
+        return Err(PushError::Opcode);
     }
     if count == MOST {
-        return Pushed::Full;
+        return Err(PushError::Full);
     }
-    Pushed::At(count + 1)
+    Ok(count + 1)
 }
 
-fn is_at(p: Pushed) -> bool
-    ensures { result ≡ stored (outcome p) }
-{
-    match p {
-        Pushed::At(_) => true,
-        Pushed::Short => false,
-        Pushed::Opcode => false,
-        Pushed::Full => false,
-    }
-}
-
-// Pushes a record: it stands at the place `count`, or nothing is changed.
-pub fn push_undo(list: &mut [Undo], count: usize, u: Undo) -> Pushed
+// Pushes a record, which gives the new count: it stands at the place `count`, or nothing is changed.
+pub fn push_undo(list: &mut [Undo], count: usize, u: Undo) -> Result<usize, PushError>
     ensures { (outcome result ≡ push_of (length list.old) count u.op) × (list.new ≡ pushed_in list.old count u) }
 {
-    let p = place(list.len(), count, u.op);
-    if is_at(p) {
-        list[count] = u;
-        return p;
-    } else {
-        return p;
-    }
+    let n = place(list.len(), count, u.op)?;
+    list[count] = u;
+    Ok(n)
 }

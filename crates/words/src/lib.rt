@@ -57,16 +57,13 @@ pub fn room(s: &[u8], k: usize, n: usize) -> bool
     ensures { result ≡ within s.now k n }
 {
     let m = s.len() / 8;
-    if m < n {
-        return false;
-    }
-    if k <= m - n { true } else { false }
+    n <= m && k <= m - n
 }
 
 fn byte(x: u8) -> u64
     ensures { (result ≡ x) × (result < 256) }
 {
-    x as u64
+    u64::from(x)
 }
 
 // Four bytes, read one by one and without a test, so that they are one load.
@@ -89,10 +86,8 @@ fn load_all(s: &[u8], k: usize, w: &mut [u64])
     requires { (k + length w.old) * 8 ≤ length s.now }
     ensures { w.new ≡ words_in s.now k (length w.old) }
 {
-    let mut i: usize = 0;
-    while i < w.len() {
-        w[i] = word(s, k + i);
-        i = i + 1;
+    for (i, x) in w.iter_mut().enumerate() {
+        *x = word(s, k + i);
     }
 }
 
@@ -100,10 +95,8 @@ fn store_all(s: &mut [u8], k: usize, w: &[u64])
     requires { (k + length w.now) * 8 ≤ length s.old }
     ensures { s.new ≡ put_words s.old k w.now }
 {
-    let mut i: usize = 0;
-    while i < w.len() {
-        fields::set_le64(s, (k + i) * 8, w[i]);
-        i = i + 1;
+    for (i, x) in w.iter().enumerate() {
+        fields::set_le64(s, (k + i) * 8, *x);
     }
 }
 
@@ -111,12 +104,10 @@ fn same_all(s: &[u8], k: usize, w: &[u64]) -> bool
     requires { (k + length w.now) * 8 ≤ length s.now }
     ensures { result ≡ same_words s.now k w.now }
 {
-    let mut i: usize = 0;
-    while i < w.len() {
-        if word(s, k + i) != w[i] {
+    for (i, x) in w.iter().enumerate() {
+        if word(s, k + i) != *x {
             return false;
         }
-        i = i + 1;
     }
     true
 }
@@ -143,17 +134,14 @@ pub fn store(s: &mut [u8], k: usize, w: &[u64])
 pub fn same(s: &[u8], k: usize, w: &[u64]) -> bool
     ensures { result ≡ pick (within s.now k (length w.now)) (same_words s.now k w.now) false }
 {
-    if room(s, k, w.len()) {
-        return same_all(s, k, w);
-    }
-    false
+    room(s, k, w.len()) && same_all(s, k, w)
 }
 
 // A bool as a word, and back.
 pub fn bit(b: bool) -> u64
     ensures { result ≡ bit_of b }
 {
-    if b { 1 } else { 0 }
+    u64::from(b)
 }
 
 pub fn flag(w: u64) -> bool
@@ -166,19 +154,19 @@ pub fn flag(w: u64) -> bool
 pub fn wide8(x: u8) -> u64
     ensures { result ≡ x }
 {
-    x as u64
+    u64::from(x)
 }
 
 pub fn wide16(x: u16) -> u64
     ensures { result ≡ x }
 {
-    x as u64
+    u64::from(x)
 }
 
 pub fn wide32(x: u32) -> u64
     ensures { result ≡ x }
 {
-    x as u64
+    u64::from(x)
 }
 
 pub fn narrow8(w: u64) -> u8

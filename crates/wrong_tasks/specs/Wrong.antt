@@ -1,6 +1,6 @@
 -- WRONG ANSWERS of functions on tasks, as in `wrong/specs/Wrong.antt`. A step is told as 1 and the state that is left, or as 0 and how the task has ended.
 use Rattle.std.specs.Prelude as std
-use Rattle.std.specs.Prelude.{ℕ, ◌-◌, ◌^◌, true, List, [], ◌∷◌, ◌++◌, take, drop, replicate}
+use Rattle.std.specs.Prelude.{ℕ, ◌-◌, ◌^◌, true, List, [], ◌∷◌, ◌++◌, take, drop, replicate, Result, Ok, Err}
 use Rattle.std.proofs.Math.Option.{Option, some, none}
 use Rattle.fields.specs.Outcome.{Outcome, value, refused, number_of}
 use Rattle.wrong.specs.Wrong.{Row, row, told, told_unit, yes}
@@ -88,8 +88,8 @@ use Rattle.work.specs.declared.WorkStep.{WorkStep}
 use Rattle.session.specs.declared.Top.{Top}
 use Rattle.undo.specs.List.{undo_of, pop_of, top_of, any_reserved, outcome, push_of, pushed_in}
 use Rattle.undo.specs.declared.Undo.{Undo}
-use Rattle.undo.specs.declared.Pushed.{Pushed}
-use Rattle.undo.specs.declared.Pushed.TheVariants as v
+use Rattle.undo.specs.declared.PushError.{PushError}
+use Rattle.undo.specs.declared.PushError.TheVariants as v
 
 abbrev zeros : ℕ → List ℕ
 zeros n = replicate n 0
@@ -773,7 +773,7 @@ told_pop (value none) = 0 ∷ []
 told_pop (refused n vs) = n ∷ vs
 
 -- the number of what a push comes to
-abbrev numbered : Pushed → ℕ
+abbrev numbered : Result ℕ PushError → ℕ
 numbered p = number_of (outcome p)
 
 -- whether one of the records from a place on, and below a count, is reserved
@@ -786,8 +786,8 @@ pushed n u = flat (λ (x : Undo). x.op ∷ []) (pushed_in (take 2 records) n u)
 
 abbrev pub undos : List Row
 undos =
-    -- Pushed::number (pushed, short, opcode, full): a full list is 18; pushed is 1
-    row (numbered (v.At 1) ∷ numbered v.Short ∷ numbered v.Opcode ∷ numbered v.Full ∷ []) (0 ∷ 21 ∷ 22 ∷ 18 ∷ []) (1 ∷ 21 ∷ 22 ∷ 19 ∷ []) ∷
+    -- number (pushed, short, opcode, full): a full list is 18; pushed is 1
+    row (numbered (Ok 1) ∷ numbered (Err v.Short) ∷ numbered (Err v.Opcode) ∷ numbered (Err v.Full) ∷ []) (0 ∷ 21 ∷ 22 ∷ 18 ∷ []) (1 ∷ 21 ∷ 22 ∷ 19 ∷ []) ∷
     -- pop_undo of two: the record at the count; as many are left
     row (told_pop (pop_of records 2)) (0 ∷ 1 ∷ 0x007 ∷ 7 ∷ 8 ∷ 9 ∷ []) (0 ∷ 2 ∷ 0x44 ∷ 4 ∷ 5 ∷ 6 ∷ []) ∷
     -- pop_undo of none: the first record; 21

@@ -12,7 +12,7 @@ pub returns-then-m-lt-STATE_BYTES : goal.returns-then-m-lt-STATE_BYTES
 returns-then-m-lt-STATE_BYTES c = rw (lt-ltb _ _ c.if-m-lt-STATE_BYTES.true) refl
 
 pub loop-i-init : goal.loop-i-init
-loop-i-init c = (omega arith, refl)
+loop-i-init c = refl
 
 pub flag_stands-requires : goal.flag_stands-requires
 flag_stands-requires c = (omega arith, omega arith)
@@ -23,33 +23,18 @@ returns-then-not-flag_stands c =
     let l = c.loop-i in
     let no = sym c.flag_stands.ensures ∙ not-true c.flag_stands.result (ap not c.if-not-flag_stands.true) in
     sym (rw (le-ltb _ _ c.if-m-lt-STATE_BYTES.false)
-    (sym l.invariant.1 ∙ flags_turn p.m.now slots_at SLOTS l.i c.loop-i-test.true ∙ rw no refl))
+    (sym l.invariant ∙ flags_turn p.m.now slots_at SLOTS l.i c.loop-i-test.true ∙ rw no refl))
 
 pub loop-i-preserved : goal.loop-i-preserved
 loop-i-preserved c =
     let p = c.args in
     let l = c.loop-i in
     let yes = sym c.flag_stands.ensures ∙ not-false c.flag_stands.result (ap not c.if-not-flag_stands.false) in
-    (omega arith, sym (flags_turn p.m.now slots_at SLOTS l.i c.loop-i-test.true ∙ rw yes refl) ∙ l.invariant.1)
+    sym (flags_turn p.m.now slots_at SLOTS l.i c.loop-i-test.true ∙ rw yes refl) ∙ l.invariant
 
 pub returns : goal.returns
 returns c =
     let p = c.args in
     let l = c.loop-i in
     sym (rw (le-ltb _ _ c.if-m-lt-STATE_BYTES.false)
-    (sym l.invariant.1 ∙ flags_end p.m.now (slots_at + l.i * SLOT) SLOTS l.i c.loop-i-test.false))
-
-pub overflow_mul-i : goal.overflow_mul-i
-overflow_mul-i c = omega arith
-
-pub overflow_add-i : goal.overflow_add-i
-overflow_add-i c = omega arith
-
-pub overflow_add-i-in-loop-i : goal.overflow_add-i-in-loop-i
-overflow_add-i-in-loop-i c = omega arith
-
-pub overflow_add-i-in-loop-i-2 : goal.overflow_add-i-in-loop-i-2
-overflow_add-i-in-loop-i-2 c = omega arith
-
-pub loop-i-smaller : goal.loop-i-smaller
-loop-i-smaller c = omega arith
+    (sym l.invariant ∙ flags_end p.m.now (slots_at + l.i * SLOT) SLOTS l.i c.loop-i-test.false))

@@ -10,7 +10,4 @@ use Rattle.behind.proofs.slots_stand.Given as goal
 
 -- whether all stand depends on those that are left
 abbrev pub invariant-loop-i : goal.invariant-loop-i
-invariant-loop-i l = (l.i ≤ SLOTS) × (flags_stand l.m (slots_at + l.i * SLOT) (SLOTS - l.i) ≡ flags_stand l.m slots_at SLOTS)
-
-abbrev pub decreases-loop-i : goal.decreases-loop-i
-decreases-loop-i l = SLOTS - l.i
+invariant-loop-i l = flags_stand l.m (slots_at + l.i * SLOT) (SLOTS - l.i) ≡ flags_stand l.m slots_at SLOTS

@@ -1,5 +1,4 @@
 use mathlib.Core.Path.{ap, sym, ◌∙◌}
-use borrow.Author.Rules.{rules}
 use borrow.Author.Tests.{lt-ltb, le-ltb, eq-eqb, ne_eqb}
 use lib.Dec.{ltb}
 use Rattle.undo.specs.List.{push_of}
@@ -9,12 +8,12 @@ pub returns-then-count-gt-MOST : goal.returns-then-count-gt-MOST
 unfolding push_of
 returns-then-count-gt-MOST c = simp (lt-ltb _ _ c.if-count-gt-MOST.true)
 
-pub returns-then-len-least : goal.returns-then-len-least
+pub returns-then-len-min : goal.returns-then-len-min
 unfolding push_of
-returns-then-len-least c = let p = c.args in
+returns-then-len-min c = let p = c.args in
     simp (
       le-ltb _ _ c.if-count-gt-MOST.false,
-      ap (ltb p.len) (sym c.least.ensures) ∙ lt-ltb _ _ c.if-len-least.true,
+      ap (ltb p.len) (sym c.min.ensures) ∙ lt-ltb _ _ c.if-len-min.true,
     )
 
 pub returns-then-reserved : goal.returns-then-reserved
@@ -22,7 +21,7 @@ unfolding push_of
 returns-then-reserved c = let p = c.args in
     simp (
       le-ltb _ _ c.if-count-gt-MOST.false,
-      ap (ltb p.len) (sym c.least.ensures) ∙ le-ltb _ _ c.if-len-least.false,
+      ap (ltb p.len) (sym c.min.ensures) ∙ le-ltb _ _ c.if-len-min.false,
       sym c.reserved.ensures ∙ c.if-reserved.true,
     )
 
@@ -31,7 +30,7 @@ unfolding push_of
 returns-then-count-eq-MOST c = let p = c.args in
     simp (
       le-ltb _ _ c.if-count-gt-MOST.false,
-      ap (ltb p.len) (sym c.least.ensures) ∙ le-ltb _ _ c.if-len-least.false,
+      ap (ltb p.len) (sym c.min.ensures) ∙ le-ltb _ _ c.if-len-min.false,
       sym c.reserved.ensures ∙ c.if-reserved.false,
       eq-eqb _ _ c.if-count-eq-MOST.true,
     )
@@ -41,7 +40,7 @@ unfolding push_of
 returns c = let p = c.args in
     simp (
       le-ltb _ _ c.if-count-gt-MOST.false,
-      ap (ltb p.len) (sym c.least.ensures) ∙ le-ltb _ _ c.if-len-least.false,
+      ap (ltb p.len) (sym c.min.ensures) ∙ le-ltb _ _ c.if-len-min.false,
       sym c.reserved.ensures ∙ c.if-reserved.false,
       ne_eqb _ _ c.if-count-eq-MOST.false,
     )

@@ -4,7 +4,6 @@ use native.Mathlib.Nat.{add-zero}
 use native.Mathlib.Omega.{arith}
 use lib.ListN.{get_or}
 use Rattle.fields.specs.Fields.{digits}
-use borrow.Author.Rules.{rules}
 use Rattle.words.proofs.half.Goals as goal
 
 pub returns : goal.returns

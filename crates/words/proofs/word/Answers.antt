@@ -1,6 +1,5 @@
 use Prim.Native.Nat.{◌+◌, ◌*◌}
 use native.Mathlib.Omega.{arith}
-use borrow.Author.Rules.{rules}
 use Rattle.fields.specs.declared.Order.TheVariants.{Little}
 use Rattle.fields.proofs.Laws.{number_lt}
 use Rattle.words.proofs.Laws.{halves}
