@@ -2,40 +2,34 @@
 // decimal, bytes and base in hexadecimal; then the total. Where the reply or its layout is refused, it prints `refused` and the number.
 #![tactic(auto)]
 
-ghost use Rattle.std.specs.Prelude.{◌≤◌, length, IfOk};
-
-use layout::{Fit, Layout, Table};
-use reply::{CapCheck, DevCap, Kind};
+use layout::{Layout, Table};
+use reply::{DevCap, Kind};
 use std::io;
 use std::io::Read;
-
-fn text(rt: &impl Print, s: &[u8]) -> io::Result<()> {
-    rt.write_all(s)
-}
 
 fn refused(rt: &impl Print, number: u32) -> io::Result<()> {
     println!(rt; "refused {number}")
 }
 
-fn name(rt: &impl Print, index: usize) -> io::Result<()> {
+fn name(index: usize) -> &'static str {
     match index {
-        Kind::QPC => text(rt, b"QPC"),
-        Kind::RDMARC => text(rt, b"RDMARC"),
-        Kind::ALTC => text(rt, b"ALTC"),
-        Kind::AUXC => text(rt, b"AUXC"),
-        Kind::SRQC => text(rt, b"SRQC"),
-        Kind::CQC => text(rt, b"CQC"),
-        Kind::EQC => text(rt, b"EQC"),
-        Kind::DMPT => text(rt, b"dMPT"),
-        Kind::CMPT => text(rt, b"cMPT"),
-        Kind::MTT => text(rt, b"MTT"),
-        _ => text(rt, b"MCG"),
+        Kind::QPC => "QPC",
+        Kind::RDMARC => "RDMARC",
+        Kind::ALTC => "ALTC",
+        Kind::AUXC => "AUXC",
+        Kind::SRQC => "SRQC",
+        Kind::CQC => "CQC",
+        Kind::EQC => "EQC",
+        Kind::DMPT => "dMPT",
+        Kind::CMPT => "cMPT",
+        Kind::MTT => "MTT",
+        _ => "MCG",
     }
 }
 
 fn row(rt: &impl Print, t: Table) -> io::Result<()> {
-    name(rt, t.index)?;
-    println!(rt; " {} {} {:x} {:x}", t.entry, t.count, t.bytes, t.base)
+    let name = name(t.index);
+    println!(rt; "{name} {} {} {:x} {:x}", t.entry, t.count, t.bytes, t.base)
 }
 
 fn list(rt: &impl Print, l: Layout) -> io::Result<()> {
@@ -46,36 +40,20 @@ fn list(rt: &impl Print, l: Layout) -> io::Result<()> {
 }
 
 fn lay_out(rt: &impl Print, cap: DevCap) -> io::Result<()> {
-    let laid = layout::profile(cap);
-    let fit = laid.fit;
-    match fit {
-        Fit::Accepted => list(rt, laid.layout),
-        _ => refused(rt, fit.number()),
+    match layout::profile(cap) {
+        Ok(l) => list(rt, l),
+        Err(why) => refused(rt, why.number()),
     }
 }
 
-// Reads until the buffer is full or the input ends, and returns how many bytes it put at the buffer's start.
-fn read_full(input: &mut impl Read, buf: &mut [u8]) -> io::Result<usize>
-    ensures { IfOk result (λ n. n ≤ length buf.new) }
-{
-    let mut done: usize = 0;
-    for _ in 0..buf.len() {
-        let n = input.read(&mut buf[done..])?;
-        if n == 0 {
-            break;
-        }
-        done = done + n;
-    }
-    Ok(done)
-}
+// The bytes of a reply that are read; what stands behind them is not looked at.
+const ROOM: u64 = 4096;
 
 fn main(rt: HostRuntime) -> io::Result<()> {
-    let mut space = [0u8; 4096];
-    let n = read_full(&mut rt.stdin(), &mut space)?;
-    let c = reply::dev_cap(&space[..n], None);
-    let check = c.check;
-    match check {
-        CapCheck::Good => lay_out(&rt, c.cap),
-        _ => refused(&rt, check.number()),
+    let mut space = Vec::new(rt.alloc());
+    rt.stdin().take(ROOM).read_to_end(&mut space)?;
+    match reply::dev_cap(&space, None) {
+        Ok(cap) => lay_out(&rt, cap),
+        Err(why) => refused(&rt, why.number()),
     }
 }
