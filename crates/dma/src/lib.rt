@@ -302,8 +302,8 @@ fn put_entry(inbox: &mut [u8], n: usize, b: Block)
     ensures { inbox.new ≡ entry_at inbox.old n b }
 {
     let at = n * PageList::ENTRY;
-    fields::set_be64(inbox, at, b.virt);
-    fields::set_be64(inbox, at + 8, word(b));
+    let _ = fields::set_be64(inbox, at, b.virt);
+    let _ = fields::set_be64(inbox, at + 8, word(b));
 }
 
 // Writes the entries of the next blocks, capacity of them at most.

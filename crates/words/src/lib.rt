@@ -102,7 +102,7 @@ fn store_all(s: &mut [u8], k: usize, w: &[u64])
 {
     let mut i: usize = 0;
     while i < w.len() {
-        fields::set_le64(s, (k + i) * 8, w[i]);
+        let _ = fields::set_le64(s, (k + i) * 8, w[i]);
         i = i + 1;
     }
 }
