@@ -206,10 +206,7 @@ fn word(s: &[u8], k: usize) -> u64
     requires { k < 16 }
     ensures { result ≡ word_at s.now k }
 {
-    match fields::be64(s, k * 8) {
-        fields::Read64::Value(v) => v,
-        fields::Read64::Short => 0,
-    }
+    fields::be64(s, k * 8).unwrap_or(0)
 }
 
 fn is_set(w: u64) -> bool

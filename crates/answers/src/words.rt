@@ -14,7 +14,7 @@ pub fn put(out: &mut [u8], at: usize, words: &[u64])
     }
     let mut i: usize = 0;
     while i < words.len() {
-        fields::set_be64(out, (at + i) * 8, words[i]);
+        let _ = fields::set_be64(out, (at + i) * 8, words[i]);
         i = i + 1;
     }
 }

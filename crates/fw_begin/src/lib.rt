@@ -48,7 +48,7 @@ fn fill_list(s: Core, c: dma::Cutter, inbox: &mut [u8], m: &[u8]) -> Core
 fn fill_init(inbox: &mut [u8], m: &[u8])
     ensures { (c : Core) → b.WithCaps (behind_in m.now) (λ b. inbox.new ≡ f.init_box (full c b) inbox.old) }
 {
-    init::fill(inbox, init_fields(m));
+    let _ = init::fill(inbox, init_fields(m));
 }
 
 // The mailboxes are written as the plan says.
@@ -65,7 +65,7 @@ fn fill(fill: Fill, s: Core, inbox: &mut [u8], outbox: &mut [u8], m: &[u8]) -> C
         }
         Fill::List(c) => fill_list(s, c, inbox, m),
         Fill::ModStat => {
-            init::mod_stat_cfg(inbox);
+            let _ = init::mod_stat_cfg(inbox);
             s
         }
         Fill::InitHca => {

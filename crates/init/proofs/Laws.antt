@@ -1,13 +1,11 @@
 -- The loop that writes fields, on lists.
-use Prim.Native.Nat.{ℕ, zero, suc, ◌+◌, ◌*◌, ◌%◌, ◌≤◌, ◌<◌}
-use mathlib.Core.Path.{◌≡◌, refl, ap, sym, ◌∙◌}
+use Prim.Native.Nat.{ℕ, ◌+◌, ◌*◌, ◌%◌, ◌≤◌, ◌<◌}
+use mathlib.Core.Path.{◌≡◌, refl, ap, sym, subst, ◌∙◌}
 use mathlib.Core.List.{List, [], ◌∷◌}
-use native.Mathlib.Nat.{le_of_suc-le-suc, mul_assoc, mul-mod_left}
-use native.Mathlib.Numerals.{add-one}
-use native.Mathlib.Omega.{arith}
+use native.Mathlib.Nat.{mul_assoc, mul-mod_left}
 use lib.Dec.{lit≤}
 use lib.ListN.{length, get_or, drop}
-use lib.Seq.{drop-cons}
+use Rattle.std.proofs.lemmas.List.{drop_more}
 use Rattle.fields.specs.Fields.{put_at, written_at}
 use Rattle.fields.specs.declared.Order.TheVariants.{Big}
 use Rattle.fields.proofs.Laws.{length_put, written_is, put_last, put_outside}
@@ -17,23 +15,22 @@ use Rattle.init.specs.Init.{put_all, fields_of}
 use Rattle.init.specs.Inner.{Within}
 
 -- what stands past the end of a list of fields
-abbrev pub no_field : Field
+abbrev no_field : Field
 no_field = record { offset = 0; width = 0; value = 0 }
 
-pub within_at : (n : ℕ) (fs : List Field) → Within n fs → (k : ℕ) → k < length fs → (get_or fs k no_field).offset + (get_or fs k no_field).width ≤ n
-within_at n [] w k h = absurd (omega arith)
-within_at n (f ∷ fs) w zero h = w.0
-within_at n (f ∷ fs) w (suc k) h = within_at n fs w.1 k (le_of_suc-le-suc h)
-
 -- a turn of the loop: the next field is written
-pub put_more : (s t : List ℕ) (fs : List Field) (k : ℕ) → k < length fs → (get_or fs k no_field).offset + (get_or fs k no_field).width ≤ length s
-    → t ≡ written_at Big s (get_or fs k no_field).offset (get_or fs k no_field).width (get_or fs k no_field).value → (length t ≡ length s) × (put_all t (drop (k + 1) fs) ≡ put_all s (drop k fs))
+pub put_more : (s t : List ℕ) (fs : List Field) (k : ℕ) → k < length fs → Within (length s) (drop k fs)
+    → t ≡ written_at Big s (get_or fs k no_field).offset (get_or fs k no_field).width (get_or fs k no_field).value
+    → Within (length t) (drop (k + 1) fs) × (put_all t (drop (k + 1) fs) ≡ put_all s (drop k fs))
 unfolding put_all
-put_more s t fs k h l e =
+put_more s t fs k h w e =
     let f = get_or fs k no_field in
-    let q = e ∙ written_is Big s f.offset f.width f.value l in (
-      ap length q ∙ length_put Big s f.offset f.width f.value,
-      ap (λ (x : List ℕ). put_all x (drop (k + 1) fs)) q ∙ rw (drop-cons fs k no_field h) (ap (λ (m : ℕ). put_all (put_at Big s f.offset f.width f.value) (drop m fs)) (add-one k)),
+    let more = drop_more fs k no_field h in
+    let v : (f.offset + f.width ≤ length s) × Within (length s) (drop (k + 1) fs) = subst (Within (length s)) more w in
+    let q = e ∙ written_is Big s f.offset f.width f.value v.0 in
+    let n : length s ≡ length t = sym (ap length q ∙ length_put Big s f.offset f.width f.value) in (
+      subst (λ (m : ℕ). Within m (drop (k + 1) fs)) n v.1,
+      ap (λ (x : List ℕ). put_all x (drop (k + 1) fs)) q ∙ sym (ap (put_all s) more),
     )
 
 -- the fields of INIT_HCA lie within a mailbox

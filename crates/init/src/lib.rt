@@ -4,11 +4,11 @@
 ghost use Rattle.std.specs.Prelude.{◌≡◌, ◌||◌, ◌+◌, ◌≤◌, eqb, length};
 ghost use Rattle.fields.specs.Outcome.{pick};
 ghost use Rattle.reply.specs.Capability.{bit};
-ghost use Rattle.fields.specs.Fields.{written};
+ghost use Rattle.fields.specs.Fields.{outcome};
 ghost use Rattle.init.specs.Inner.{Within};
 ghost use Rattle.init.specs.Init.{field, put_all, filled_by, fill_of, fields_of, flags_of, init_of, log_of, worth, mod_stat_cfg};
 
-use fields::{Order, Written};
+use fields::{Order, Short, Unsigned};
 use layout::Table;
 use reply::{DevCap, Kind};
 
@@ -21,43 +21,13 @@ pub struct Field {
 }
 
 impl Field {
-    pub fn byte(offset: usize, value: u8) -> Self
-        ensures { result ≡ field offset 1 value }
+    pub fn new<N: Unsigned>(offset: usize, value: N) -> Self
+        ensures { result ≡ field offset N.WIDTH (N.worth value) }
     {
         Self {
             offset,
-            width: 1,
-            value: value as u64,
-        }
-    }
-
-    pub fn be16(offset: usize, value: u16) -> Self
-        ensures { result ≡ field offset 2 value }
-    {
-        Self {
-            offset,
-            width: 2,
-            value: value as u64,
-        }
-    }
-
-    pub fn be32(offset: usize, value: u32) -> Self
-        ensures { result ≡ field offset 4 value }
-    {
-        Self {
-            offset,
-            width: 4,
-            value: value as u64,
-        }
-    }
-
-    pub fn be64(offset: usize, value: u64) -> Self
-        ensures { result ≡ field offset 8 value }
-    {
-        Self {
-            offset,
-            width: 8,
-            value,
+            width: N::WIDTH,
+            value: value.wide(),
         }
     }
 }
@@ -93,8 +63,6 @@ pub struct InitHca {
 }
 
 impl InitHca {
-    pub const FIELDS: usize = 28;
-
     pub const MAILBOX: usize = 4096;
 
     // RDMA responder entries per QP, as an exponent.
@@ -107,100 +75,83 @@ impl InitHca {
         ensures { result ≡ fields_of self }
     {
         [
-            Field::byte(0x000, 2),
-            Field::byte(0x00e, 0x50),
-            Field::be32(0x014, self.flags),
-            Field::be64(0x030, self.qpc),
-            Field::byte(0x037, self.log_qps),
-            Field::be64(0x048, self.srqc),
-            Field::byte(0x04f, self.log_srqs),
-            Field::be64(0x050, self.cqc),
-            Field::byte(0x057, self.log_cqs),
-            Field::be64(0x060, self.altc),
-            Field::be64(0x070, self.auxc),
-            Field::be64(0x080, self.eqc),
-            Field::byte(0x087, self.log_eqs),
-            Field::be16(0x08a, self.num_sys_eqs),
-            Field::be64(0x090, self.rdmarc),
-            Field::byte(0x097, self.log_rdmarcs),
-            Field::be64(0x0c0, self.mcg),
-            Field::byte(0x0d3, self.log_mcg_entry),
-            Field::byte(0x0d7, self.log_mcg_hash),
-            Field::byte(0x0d8, self.steering),
-            Field::byte(0x0db, self.log_mcgs),
-            Field::be64(0x0f0, self.dmpt),
-            Field::byte(0x0f8, self.windows),
-            Field::byte(0x0fb, self.log_mpts),
-            Field::be64(0x100, self.mtt),
-            Field::be64(0x108, self.cmpt),
-            Field::byte(0x12a, self.log_uar_pages),
-            Field::byte(0x12b, 0),
+            Field::new(0x000, 2u8),
+            Field::new(0x00e, 0x50_u8),
+            Field::new(0x014, self.flags),
+            Field::new(0x030, self.qpc),
+            Field::new(0x037, self.log_qps),
+            Field::new(0x048, self.srqc),
+            Field::new(0x04f, self.log_srqs),
+            Field::new(0x050, self.cqc),
+            Field::new(0x057, self.log_cqs),
+            Field::new(0x060, self.altc),
+            Field::new(0x070, self.auxc),
+            Field::new(0x080, self.eqc),
+            Field::new(0x087, self.log_eqs),
+            Field::new(0x08a, self.num_sys_eqs),
+            Field::new(0x090, self.rdmarc),
+            Field::new(0x097, self.log_rdmarcs),
+            Field::new(0x0c0, self.mcg),
+            Field::new(0x0d3, self.log_mcg_entry),
+            Field::new(0x0d7, self.log_mcg_hash),
+            Field::new(0x0d8, self.steering),
+            Field::new(0x0db, self.log_mcgs),
+            Field::new(0x0f0, self.dmpt),
+            Field::new(0x0f8, self.windows),
+            Field::new(0x0fb, self.log_mpts),
+            Field::new(0x100, self.mtt),
+            Field::new(0x108, self.cmpt),
+            Field::new(0x12a, self.log_uar_pages),
+            Field::new(0x12b, 0u8),
         ]
     }
 }
 
 // Writes the fields, each of which lies within the mailbox.
-fn put_all(inbox: &mut [u8], f: [Field; 28])
-    requires { Within (length inbox.old) f }
-    ensures { inbox.new ≡ put_all inbox.old f }
+fn put_all(inbox: &mut [u8], f: &[Field])
+    requires { Within (length inbox.old) f.now }
+    ensures { inbox.new ≡ put_all inbox.old f.now }
 {
-    let mut i: usize = 0;
-    while i < InitHca::FIELDS {
-        let field = f[i];
-        fields::set_field(inbox, Order::Big, field.offset, field.width, field.value);
-        i = i + 1;
+    for field in f {
+        let _ = fields::set_field(inbox, Order::Big, field.offset, field.width, field.value);
     }
 }
 
-// Fills the INIT_HCA mailbox: all 4,096 bytes, or none where it has another length.
-pub fn fill(inbox: &mut [u8], hca: InitHca) -> Written
-    ensures result_value { written result ≡ fill_of inbox.old }
+// Fills a mailbox with these fields over zeros: all 4,096 bytes, or none where it has another length.
+fn fill_with(inbox: &mut [u8], f: &[Field]) -> Result<(), Short>
+    requires { Within 4096 f.now }
+    ensures result_value { outcome result ≡ fill_of inbox.old }
+    ensures inbox_after { inbox.new ≡ filled_by inbox.old f.now }
+{
+    if inbox.len() != InitHca::MAILBOX {
+        return Err(Short);
+    }
+    fields::zero(inbox);
+    put_all(inbox, f);
+    Ok(())
+}
+
+// The INIT_HCA mailbox.
+pub fn fill(inbox: &mut [u8], hca: InitHca) -> Result<(), Short>
+    ensures result_value { outcome result ≡ fill_of inbox.old }
     ensures inbox_after { inbox.new ≡ filled_by inbox.old (fields_of hca) }
 {
-    if inbox.len() != InitHca::MAILBOX {
-        return Written::Short;
-    }
-    fields::zero(inbox);
-    put_all(inbox, hca.fields());
-    Written::Done
+    fill_with(inbox, &hca.fields())
 }
 
-// Fills the MOD_STAT_CFG mailbox: 4 KiB pages for the device.
-pub fn mod_stat_cfg(inbox: &mut [u8]) -> Written
-    ensures result_value { written result ≡ fill_of inbox.old }
+// The MOD_STAT_CFG mailbox: 4 KiB pages for the device.
+pub fn mod_stat_cfg(inbox: &mut [u8]) -> Result<(), Short>
+    ensures result_value { outcome result ≡ fill_of inbox.old }
     ensures inbox_after { inbox.new ≡ filled_by inbox.old mod_stat_cfg }
 {
-    if inbox.len() != InitHca::MAILBOX {
-        return Written::Short;
-    }
-    fields::zero(inbox);
-    fields::set_byte(inbox, 0x02, 1);
-    fields::set_byte(inbox, 0x03, 0)
-}
-
-fn worth_if(on: bool, n: u32) -> u32
-    ensures { (result ≡ worth on n) × (result ≤ n) }
-{
-    if on {
-        return n;
-    }
-    0
-}
-
-fn worth_byte(on: bool, n: u8) -> u8
-    ensures { result ≡ worth on n }
-{
-    if on {
-        return n;
-    }
-    0
+    fill_with(inbox, &[Field::new(0x02, 1u8), Field::new(0x03, 0u8)])
 }
 
 // Port checks for UD address vectors, and what the card can do beyond that.
 fn flags(cap: DevCap) -> u32
     ensures { result ≡ flags_of cap }
 {
-    1 + worth_if(cap.flag(7), 8) + worth_if(cap.flag(48), 16) + worth_if(cap.flag(52), 8192)
+    1 + u32::from(cap.flag(7)) * 8 + u32::from(cap.flag(48)) * 16 + u32::from(cap.flag(52)) * 8192
 }
 
 fn log(n: u64) -> u8
@@ -214,19 +165,17 @@ fn log_eqs(sys: u16, count: u64) -> u8
     ensures { result ≡ pick (eqb sys 0) (log_of count) 31 }
 {
     if sys == 0 {
-        return log(count);
+        log(count)
+    } else {
+        InitHca::SYS_EQS
     }
-    InitHca::SYS_EQS
 }
 
 // Memory windows: by either of two capabilities.
 fn has_windows(cap: DevCap) -> bool
     ensures { result ≡ bit 16 cap.flags || bit 9 cap.bmme }
 {
-    if cap.flag(16) {
-        return true;
-    }
-    cap.bmme / 512 % 2 == 1
+    cap.flag(16) || cap.bmme / 512 % 2 == 1
 }
 
 // What INIT_HCA tells a card with these capabilities and these tables.
@@ -257,11 +206,11 @@ pub fn init_hca(cap: DevCap, rows: [Table; 11]) -> InitHca
         log_rdmarcs: InitHca::LOG_RDMARC_PER_QP,
         mcg: mcg.base,
         log_mcg_entry: Kind::MCG_LOG_ENTRY,
-        log_mcg_hash: (((log_mcgs as u32) + 255) % 256) as u8,
-        steering: worth_byte(cap.b0(), 8),
+        log_mcg_hash: log_mcgs.wrapping_sub(1),
+        steering: u8::from(cap.b0()) * 8,
         log_mcgs,
         dmpt: dmpt.base,
-        windows: worth_byte(has_windows(cap), 0x80),
+        windows: u8::from(has_windows(cap)) * 0x80,
         log_mpts: log(dmpt.count),
         mtt: layout::find(rows, Kind::MTT).base,
         cmpt: layout::find(rows, Kind::CMPT).base,

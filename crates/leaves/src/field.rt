@@ -12,7 +12,7 @@ pub fn leaf_field(s: &[u8], little: bool, off: usize, width: usize, out: &mut [u
     ensures value { result ≡ said 2 out.old }
     ensures out_after { out.new ≡ answer 2 out.old (number_words (pick (leb width 8) (field_at (order_of little) s.now off width) (refused 21 []))) }
 {
-    let w = answers::field::words64(fields::field(s, answers::field::order(little), off, width));
+    let w = answers::field::words(fields::field(s, answers::field::order(little), off, width));
     words::give(out, &w)
 }
 
@@ -20,7 +20,7 @@ pub fn leaf_byte(s: &[u8], off: usize, out: &mut [u8]) -> u32
     ensures value { result ≡ said 2 out.old }
     ensures out_after { out.new ≡ answer 2 out.old (number_words (field_at Big s.now off 1)) }
 {
-    let w = answers::field::words8(fields::byte(s, off));
+    let w = answers::field::words(fields::byte(s, off));
     words::give(out, &w)
 }
 
@@ -28,7 +28,7 @@ pub fn leaf_be16(s: &[u8], off: usize, out: &mut [u8]) -> u32
     ensures value { result ≡ said 2 out.old }
     ensures out_after { out.new ≡ answer 2 out.old (number_words (field_at Big s.now off 2)) }
 {
-    let w = answers::field::words16(fields::be16(s, off));
+    let w = answers::field::words(fields::be16(s, off));
     words::give(out, &w)
 }
 
@@ -36,7 +36,7 @@ pub fn leaf_be32(s: &[u8], off: usize, out: &mut [u8]) -> u32
     ensures value { result ≡ said 2 out.old }
     ensures out_after { out.new ≡ answer 2 out.old (number_words (field_at Big s.now off 4)) }
 {
-    let w = answers::field::words32(fields::be32(s, off));
+    let w = answers::field::words(fields::be32(s, off));
     words::give(out, &w)
 }
 
@@ -44,7 +44,7 @@ pub fn leaf_be64(s: &[u8], off: usize, out: &mut [u8]) -> u32
     ensures value { result ≡ said 2 out.old }
     ensures out_after { out.new ≡ answer 2 out.old (number_words (field_at Big s.now off 8)) }
 {
-    let w = answers::field::words64(fields::be64(s, off));
+    let w = answers::field::words(fields::be64(s, off));
     words::give(out, &w)
 }
 
@@ -52,7 +52,7 @@ pub fn leaf_le16(s: &[u8], off: usize, out: &mut [u8]) -> u32
     ensures value { result ≡ said 2 out.old }
     ensures out_after { out.new ≡ answer 2 out.old (number_words (field_at Little s.now off 2)) }
 {
-    let w = answers::field::words16(fields::le16(s, off));
+    let w = answers::field::words(fields::le16(s, off));
     words::give(out, &w)
 }
 
@@ -60,7 +60,7 @@ pub fn leaf_le64(s: &[u8], off: usize, out: &mut [u8]) -> u32
     ensures value { result ≡ said 2 out.old }
     ensures out_after { out.new ≡ answer 2 out.old (number_words (field_at Little s.now off 8)) }
 {
-    let w = answers::field::words64(fields::le64(s, off));
+    let w = answers::field::words(fields::le64(s, off));
     words::give(out, &w)
 }
 

@@ -27,10 +27,7 @@ impl Stored {
 }
 
 fn half(s: &[u8], off: usize) -> u16 {
-    match fields::be16(s, off) {
-        fields::Read16::Value(v) => v,
-        fields::Read16::Short => 0,
-    }
+    fields::be16(s, off).unwrap_or(0)
 }
 
 pub(crate) fn head_of(s: &[u8]) -> Head {
@@ -65,10 +62,7 @@ pub(crate) fn length(h: Head) -> usize
 
 // The 64 bits at a place, or 0 where there are none.
 fn qword(body: &[u8], at: usize) -> u64 {
-    match fields::be64(body, at) {
-        fields::Read64::Value(v) => v,
-        fields::Read64::Short => 0,
-    }
+    fields::be64(body, at).unwrap_or(0)
 }
 
 // Word k of those that a machine starts with, or 0 where there is none.

@@ -13,10 +13,7 @@ pub(crate) struct Head {
 }
 
 fn half(s: &[u8], off: usize) -> u16 {
-    match fields::be16(s, off) {
-        fields::Read16::Value(v) => v,
-        fields::Read16::Short => 0,
-    }
+    fields::be16(s, off).unwrap_or(0)
 }
 
 pub(crate) fn head_of(s: &[u8]) -> Head {

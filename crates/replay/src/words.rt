@@ -5,10 +5,7 @@ ghost use Rattle.std.specs.Prelude.{◌≤◌};
 pub(crate) fn word(args: &[u8], k: usize) -> u64
     requires { k ≤ 1000 }
 {
-    match fields::be64(args, k * 8) {
-        fields::Read64::Value(v) => v,
-        fields::Read64::Short => 0,
-    }
+    fields::be64(args, k * 8).unwrap_or(0)
 }
 
 pub(crate) fn is_set(args: &[u8], k: usize) -> bool
@@ -45,7 +42,7 @@ pub(crate) fn low8(args: &[u8], k: usize) -> u8
 pub(crate) fn put(out: &mut [u8], k: usize, v: u64)
     requires { k ≤ 1000 }
 {
-    fields::set_be64(out, k * 8, v);
+    let _ = fields::set_be64(out, k * 8, v);
 }
 
 pub(crate) fn put_bool(out: &mut [u8], b: bool) {

@@ -1,7 +1,7 @@
 // An item of the input: a kind and two values, and the number of bytes that follow it, of 1, 8, 8 and 2 bytes.
 ghost use Rattle.std.specs.Prelude.{◌≤◌, length, IfOk};
 
-use fields::{Order, Read64};
+use fields::Order;
 use std::io;
 use std::io::Read;
 
@@ -35,10 +35,7 @@ impl Item {
 
 // The number of so many bytes at a place, or 0 where it passes the end.
 fn number(s: &[u8], order: Order, at: usize, width: usize) -> u64 {
-    match fields::field(s, order, at, width) {
-        Read64::Value(v) => v,
-        Read64::Short => 0,
-    }
+    fields::field(s, order, at, width).unwrap_or(0)
 }
 
 // Word k of what a session says; those of an item are big-endian.

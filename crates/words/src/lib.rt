@@ -96,7 +96,7 @@ fn store_all(s: &mut [u8], k: usize, w: &[u64])
     ensures { s.new ≡ put_words s.old k w.now }
 {
     for (i, x) in w.iter().enumerate() {
-        fields::set_le64(s, (k + i) * 8, *x);
+        let _ = fields::set_le64(s, (k + i) * 8, *x);
     }
 }
 
