@@ -47,8 +47,7 @@ use Rattle.tasks.specs.declared.Attributes.TheVariants as t
 use Rattle.tasks.specs.Claim.{claiming}
 use Rattle.tasks.specs.declared.Claimed.{Claimed}
 use Rattle.tasks.specs.declared.Claimed.TheVariants as l
-use Rattle.uar.specs.Uar.{finding}
-use Rattle.uar.specs.Uar.{Found}
+use Rattle.uar.specs.Uar.{Found, finding}
 use Rattle.uar.specs.declared.NotFound.TheVariants as u
 use Rattle.work.specs.Work.{looking}
 use Rattle.session.specs.Failures.{failure_of, fault_of, immediate_of, needs_reset}

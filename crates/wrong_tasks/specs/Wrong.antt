@@ -68,10 +68,9 @@ use Rattle.tasks.specs.declared.ClaimStep.TheVariants as ls
 use Rattle.tasks.specs.declared.Parting.TheVariants as pp
 use Rattle.tasks.specs.declared.PartingStep.{PartingStep}
 use Rattle.tasks.specs.declared.PartingStep.TheVariants as ps
-use Rattle.uar.specs.Uar.{found, judging}
+use Rattle.uar.specs.Uar.{Found, found, judging}
 use Rattle.uar.specs.Steps.{index_of, bar_asks, bar_step_of}
 use Rattle.uar.specs.Steps as us
-use Rattle.uar.specs.Uar.{Found}
 use Rattle.uar.specs.declared.BarPhase.{BarPhase}
 use Rattle.uar.specs.declared.BarPhase.TheVariants as up
 use Rattle.uar.specs.declared.FindBar.{FindBar}
