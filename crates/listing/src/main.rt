@@ -5,7 +5,7 @@
 ghost use Rattle.std.specs.Prelude.{◌≤◌, length, IfOk};
 
 use bars::Size;
-use layout::{Fit, Layout, Table};
+use layout::{Layout, Table};
 use reply::{CapCheck, DevCap, Kind};
 use std::io;
 use std::io::Read;
@@ -47,11 +47,9 @@ fn list(rt: &impl Print, l: Layout) -> io::Result<()> {
 }
 
 fn lay_out(rt: &impl Print, cap: DevCap) -> io::Result<()> {
-    let laid = layout::profile(cap);
-    let fit = laid.fit;
-    match fit {
-        Fit::Accepted => list(rt, laid.layout),
-        _ => refused(rt, fit.number()),
+    match layout::profile(cap) {
+        Ok(layout) => list(rt, layout),
+        Err(misfit) => refused(rt, misfit.number()),
     }
 }
 
