@@ -13,10 +13,6 @@ use Rattle.layout.specs.Layout.{layout_of, lay_out, rows_of, first_bad, total_of
 verdict : (bad over : Bool) (i t : ℕ) → Layout → Outcome Layout
 verdict bad over i t l = pick bad (refused 16 (i ∷ [])) (pick over (refused 17 (t ∷ [])) (value l))
 
-v_entry : {b : Bool} (b₂ : Bool) (i t : ℕ) (l : Layout) → b ≡ true → verdict b b₂ i t l ≡ refused 16 (i ∷ [])
-unfolding verdict
-v_entry b₂ i t l e = rw e
-
 v_total : {b b₂ : Bool} (i t : ℕ) (l : Layout) → b ≡ false → b₂ ≡ true → verdict b b₂ i t l ≡ refused 17 (t ∷ [])
 unfolding verdict
 v_total i t l e e₂ = rw (e, e₂)
@@ -25,14 +21,11 @@ v_good : {b b₂ : Bool} (i t : ℕ) (l : Layout) → b ≡ false → b₂ ≡ f
 unfolding verdict
 v_good i t l e e₂ = rw (e, e₂)
 
--- The answer at each test, for the index, the total and the layout that were found.
+-- The answer at the second test and past it, for the total and the layout that were found.
 module _ (counts entries : List ℕ) (most : ℕ) where
   is_verdict : layout_of counts entries most ≡ verdict (ltb (first_bad 0 entries) (length entries)) (ltb most (total_of (rows_of counts entries))) (first_bad 0 entries) (total_of (rows_of counts entries)) (lay_out counts entries)
   unfolding verdict
   is_verdict = refl
-
-  pub entry_answers : (i : ℕ) → i ≡ first_bad 0 entries → first_bad 0 entries < length entries → refused 16 (i ∷ []) ≡ layout_of counts entries most
-  entry_answers i e h = ap (λ (n : ℕ). refused 16 (n ∷ [])) e ∙ sym (is_verdict ∙ v_entry _ _ _ _ (lt-ltb _ _ h))
 
   module _ (good : length entries ≤ first_bad 0 entries) (t : ℕ) (et : t ≡ total_of (rows_of counts entries)) where
     pub total-answers : most < t → refused 17 (t ∷ []) ≡ layout_of counts entries most

@@ -22,10 +22,6 @@ lines_lt reserved entry h =
 pub free_le : (reserved entry : ℕ) → 0 < entry → reserved < 2 ^ 16 → first_free reserved entry ≤ 2 ^ 17
 free_le reserved entry h k = raised_le (lines (reserved * entry) / entry) 17 (lit≤ tt) (omega (arith, lines_lt reserved entry h))
 
--- the product of two numbers of 16 bits
-pub wide : (a b : ℕ) → a < 2 ^ 16 → b < 2 ^ 16 → a * b ≤ 2 ^ 32
-wide a b h k = mul-le-mul {n₁ = a} {m₁ = b} {n₂ = 2 ^ 16} {m₂ = 2 ^ 16} (omega arith) (omega arith)
-
 -- the tables found among modest ones, and the products made of their fields
 pub modest_found : (rows : List Table) (i : ℕ) {t : Table} → t ≡ table_in i rows → All Modest rows → Modest t
 modest_found rows i e a = subst Modest (sym e) (all_find Modest i rows modest_none a)

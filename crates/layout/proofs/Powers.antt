@@ -1,32 +1,23 @@
 -- Raising to a power of two.
-use Prim.Native.Nat.{ℕ, zero, suc, zero-le, ◌+◌, ◌-◌, ◌*◌, ◌/◌, ◌^◌, ◌≤◌, ◌<◌, max}
+use Prim.Native.Nat.{ℕ, zero, suc, zero-le, ◌+◌, ◌*◌, ◌/◌, ◌%◌, ◌^◌, ◌≤◌, ◌<◌, max}
 use mathlib.Core.Bool.{Bool, true, false}
-use mathlib.Core.Path.{◌≡◌, refl, sym, subst, ◌∙◌}
-use native.Mathlib.Nat.{pow-suc, add-zero, add-suc, suc-add, not-le_of_lt, lt_of_not-le, lt_of_le_of_lt, le_trans, le_of_eq, le_antisymm, max-le}
-use native.Mathlib.Numerals.{sub-one}
+use mathlib.Core.Path.{◌≡◌, refl, sym, ap, subst, ◌∙◌}
+use mathlib.Core.Logic.{◌⊎◌, inl, inr}
+use native.Mathlib.Nat.{pow-suc, add-zero, add-suc, suc-add, not-le_of_lt, lt_of_not-le, lt_of_le_of_lt, eq-zero-or-pos, le_refl, le_trans, le_of_eq, le_antisymm, max-le}
 use native.Mathlib.Omega.{arith}
-use borrow.Author.Tests.{leb-true, leb-false, le-leb, lt-leb, eqb-true, eq-eqb}
+use borrow.Author.Tests.{leb-true, leb-false, lt-leb, eqb-true, eq-eqb}
 use lib.Arith.{lt_of_le-ne}
 use lib.Dec.{leb}
 use lib.Pow.{pow_mono}
-use Rattle.std.specs.Prelude.{Option, Some, None, IfSome, MatchOption}
+use lib.Count.{ones_step}
+use Rattle.std.proofs.lemmas.Nat.{zero_from_ones, ones_le_self}
+use Rattle.std.specs.Prelude.{Option, Some, None, IfSome, MatchOption, count_ones}
 use Rattle.std.specs.Option.{unwrap_or}
-use Rattle.std.specs.Int.{IsNextPowerOfTwo}
+use Rattle.std.specs.Int.{IsNextPowerOfTwo, is_power_of_two}
 use Rattle.fields.specs.Outcome.{pick}
 use Rattle.layout.specs.Layout.{first_pow, pow2_of, is_pow2, Pow}
 
--- one step of the search
-pub first_here : (n p x : ℕ) → 0 < n → x ≤ p → first_pow n p x ≡ p
-unfolding first_pow
-first_here zero p x l h = absurd (omega arith)
-first_here (suc n) p x l h = rw (le-leb x p h)
-
-pub first_on : (n p x : ℕ) → 0 < n → p < x → first_pow n p x ≡ first_pow (n - 1) (p * 2) x
-unfolding first_pow
-first_on zero p x l h = absurd (omega arith)
-first_on (suc n) p x l h = rw (lt-leb x p h) (simp sub-one)
-
-pub first_none : (p x : ℕ) → p < x → first_pow 1 p x ≡ 0
+first_none : (p x : ℕ) → p < x → first_pow 1 p x ≡ 0
 unfolding first_pow
 first_none p x h = rw (lt-leb x p h)
 
@@ -102,3 +93,31 @@ pub pow_is : (x k : ℕ) → k ≤ 63 → x ≡ 2 ^ k → is_pow2 x ≡ true
 pow_is x k l e =
     let h : x ≤ 2 ^ k = le_of_eq e in
     eq-eqb (pow2_of x) x (le_antisymm (rw (← e) at (raised_le x k l h)) (raised x (le_trans h (pow_mono l))).above)
+
+-- one bit is set in a power of two, and in no other number
+one_by : (n : ℕ) → (n % 2 ≡ 0) ⊎ (0 < n % 2) → count_ones n ≡ 1 → (count_ones (n / 2) ≡ 1 → Pow (n / 2)) → Pow n
+one_by n (inl z) e f = let p = f (omega (arith, ones_step n, e, z)) in (suc p.0, omega (arith, z, p.1, pow-suc 2 p.0))
+one_by n (inr l) e f = let h : n / 2 ≡ 0 = zero_from_ones (n / 2) (omega (arith, ones_step n, e, l)) in (0, omega (arith, h, l))
+
+one_bit : (d n : ℕ) → n ≤ d → count_ones n ≡ 1 → Pow n
+one_bit zero n h e = absurd (omega (arith, h, e, ones_le_self n))
+one_bit (suc d) n h e = one_by n (eq-zero-or-pos (n % 2)) e (one_bit d (n / 2) (omega (arith, h)))
+
+pow_bit : (k : ℕ) → count_ones (2 ^ k) ≡ 1
+pow_bit zero = omega (arith, ones_step 1, ones_le_self 0)
+pow_bit (suc k) =
+    let h : 2 ^ suc k / 2 ≡ 2 ^ k = omega (arith, pow-suc 2 k) in
+    omega (arith, ones_step (2 ^ suc k), ap count_ones h, pow_bit k, pow-suc 2 k)
+
+same_test : (a b : Bool) → (a ≡ true → b ≡ true) → (b ≡ true → a ≡ true) → a ≡ b
+same_test true b f g = sym (f refl)
+same_test false true f g = g refl
+same_test false false f g = refl
+
+pub bit_is : (x : ℕ) → x ≤ 2 ^ 63 → is_power_of_two x ≡ is_pow2 x
+bit_is x h =
+    same_test (is_power_of_two x) (is_pow2 x)
+    (λ e. let p : Pow x = one_bit x x (le_refl x) (eqb-true (count_ones x) 1 e) in
+    let small : p.0 < 64 = lt_of_not-le (λ (g : 64 ≤ p.0). let m : 2 ^ 64 ≤ 2 ^ p.0 = pow_mono g in omega (arith, h, p.1, m)) in
+    pow_is x p.0 (omega arith) p.1)
+    (λ e. let p : Pow x = is_pow x h e in eq-eqb (count_ones x) 1 (ap count_ones p.1 ∙ pow_bit p.0))
