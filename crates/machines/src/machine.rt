@@ -3,6 +3,7 @@ use buffer::{FreeStep, Freeing, Made, MakeStep, Making};
 use command::{Cmd, CmdEnd, CmdResult, CmdStep};
 use pci::{Answer, Question};
 use reset::{Ending, Reset, ResetEnd};
+use std::fmt;
 use tasks::{Attr, AttrStep, Attributes, Claim, ClaimStep, Claimed, Parting, PartingStep};
 use uar::{FindBar, NotFound};
 
@@ -14,6 +15,13 @@ pub(crate) struct End {
     pub b: u64,
     pub c: u64,
     pub d: u64,
+}
+
+impl fmt::Display for End {
+    fn fmt<W: fmt::Write>(&self, f: &mut fmt::Formatter<W>) -> fmt::Result {
+        let End { number, a, b, c, d } = *self;
+        write!(f, "ended {number:x} {a:x} {b:x} {c:x} {d:x}")
+    }
 }
 
 // The task that runs. A reset and the search for a BAR hold arrays, and stand beside it.
@@ -86,24 +94,12 @@ fn stepped(task: Task, told: bool, a: Answer) -> Task {
     }
 }
 
-fn bit(b: bool) -> u64 {
-    if b {
-        return 1;
-    }
-    0
-}
-
 // The number, then value, microseconds and toggle.
 fn command_end(told: bool, e: CmdEnd) -> End {
     let result = e.result;
-    let toggle = bit(e.toggle);
+    let toggle = u64::from(e.toggle);
     match result {
-        CmdResult::Done(v, us) => {
-            if told {
-                return end_with(0, v, us, toggle, 0);
-            }
-            end_with(0, 0, us, toggle, 0)
-        }
+        CmdResult::Done(v, us) => { end_with(0, if told { v } else { 0 }, us, toggle, 0) }
         CmdResult::Status(s, us) => end_with(6, s as u64, us, toggle, 0),
         CmdResult::Timeout(us) => end_with(7, 0, us, toggle, 0),
         CmdResult::Busy => end_with(8, 0, 0, toggle, 0),

@@ -12,18 +12,22 @@ pub(crate) struct Head {
     pub bytes: u16,
 }
 
-// A stored answer: its kind; how often it and the one before it are given in turn, where that is more than once; and its values.
-#[derive(Clone, Copy)]
-pub(crate) struct Stored {
-    pub kind: u8,
-    pub times: u64,
-    pub a: u64,
-    pub b: u64,
+impl Head {
+    pub const BYTES: usize = 8;
 }
 
-impl Stored {
-    // The kind of a resource list: where it starts in the bytes, and its length.
-    pub const LIST: u8 = 7;
+// What a question gets: an answer by itself, or a resource list, by where it starts in the bytes and its length.
+#[derive(Clone, Copy)]
+pub(crate) enum Given {
+    Plain(Answer),
+    List { from: u16, len: u16 },
+}
+
+// A stored answer, and how often it and the one before it are given in turn, where that is more than once.
+#[derive(Clone, Copy)]
+pub(crate) struct Stored {
+    pub given: Given,
+    pub times: u64,
 }
 
 fn half(s: &[u8], off: usize) -> u16 {
@@ -73,29 +77,29 @@ pub(crate) fn word(h: Head, body: &[u8], k: u16) -> u64 {
     0
 }
 
+// The answer of a kind with two values; a kind that is not known counts as failed.
+fn given_as(kind: u64, a: u64, b: u64) -> Given {
+    match kind {
+        0 => Given::Plain(Answer::Word((a % 65536) as u16)),
+        1 => Given::Plain(Answer::Dword((a % 4294967296) as u32)),
+        2 => Given::Plain(Answer::Qword(a)),
+        3 => Given::Plain(Answer::Done),
+        5 => Given::Plain(Answer::Handle(a)),
+        6 => Given::Plain(Answer::Mapped(a, b)),
+        7 => Given::List {
+            from: (a % 65536) as u16,
+            len: (b % 65536) as u16,
+        },
+        _ => Given::Plain(Answer::Failed),
+    }
+}
+
 // Answer k.
 pub(crate) fn taken(h: Head, body: &[u8], k: u16) -> Stored {
     let at = answers_at(h) + k as usize * 24;
     let first = qword(body, at);
     Stored {
-        kind: (first % 256) as u8,
+        given: given_as(first % 256, qword(body, at + 8), qword(body, at + 16)),
         times: first / 256,
-        a: qword(body, at + 8),
-        b: qword(body, at + 16),
-    }
-}
-
-// The answer that is stored; one that is not known counts as failed.
-pub(crate) fn answer(s: Stored) -> Answer {
-    let kind = s.kind;
-    match kind {
-        0 => Answer::Word((s.a % 65536) as u16),
-        1 => Answer::Dword((s.a % 4294967296) as u32),
-        2 => Answer::Qword(s.a),
-        3 => Answer::Done,
-        5 => Answer::Handle(s.a),
-        6 => Answer::Mapped(s.a, s.b),
-        7 => Answer::List,
-        _ => Answer::Failed,
     }
 }

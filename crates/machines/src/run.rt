@@ -1,12 +1,10 @@
 // A machine runs on the answers of a record.
-ghost use Rattle.std.specs.Prelude.{◌<◌};
-
-use crate::asked::Asked;
-use crate::machine::{End, Machine, Task};
-use crate::record::{Head, Stored};
-use crate::{asked, machine, record, start, text};
+use crate::machine::{Machine, Task};
+use crate::record::{Given, Head};
+use crate::{asked, machine, record, start};
 use pci::Answer;
 use std::io;
+use stored::question::{Asked, Kind};
 
 // How far a run is: the next answer, how often the pair that it ends was given, the last two questions, and whether the answers ran out.
 #[derive(Clone, Copy)]
@@ -29,81 +27,57 @@ fn begin() -> Place {
 }
 
 // A list lies in the bytes at the end of the record; one that does not is empty.
-fn listed(m: Machine, h: Head, body: &[u8], s: Stored) -> Machine {
-    let from = record::bytes_at(h) + (s.a % 65536) as usize;
-    let to = from + (s.b % 65536) as usize;
-    if to <= body.len() {
-        return machine::step(m, Answer::List, &body[from..to]);
-    }
-    machine::step(m, Answer::List, b"")
+fn listed(m: Machine, h: Head, body: &[u8], from: u16, len: u16) -> Machine {
+    let at = record::bytes_at(h) + from as usize;
+    let list = body.get(at..at + len as usize).unwrap_or(b"");
+    machine::step(m, Answer::List, list)
 }
 
 // The machine takes the next answer, where there is one. A fence is answered here: it is no bus call, and is not compared.
-fn answered(m: Machine, kind: u8, at: u16, h: Head, body: &[u8]) -> Machine {
-    if kind == Asked::FENCE {
+fn answered(m: Machine, kind: Kind, at: u16, h: Head, body: &[u8]) -> Machine {
+    if kind == Kind::Fence {
         return machine::step(m, Answer::Done, b"");
     }
     if h.answers <= at {
         return m;
     }
     let s = record::taken(h, body, at);
-    if s.kind == Stored::LIST {
-        return listed(m, h, body, s);
+    let given = s.given;
+    match given {
+        Given::Plain(a) => machine::step(m, a, b""),
+        Given::List { from, len } => listed(m, h, body, from, len),
     }
-    machine::step(m, record::answer(s), b"")
 }
 
 // The question's line. Where a pair of answers is given again, the question must be the one that stood there before, and is not written again.
 fn shown(rt: &impl Print, given: u64, older: Asked, q: Asked) -> io::Result<()> {
     if given == 0 {
-        return asked::line(rt, q);
+        return println!(rt; "{q}");
     }
-    if asked::same(q, older) {
+    if q == older {
         return Ok(());
     }
-    text::word(rt, b"other ")?;
-    asked::line(rt, q)
-}
-
-// How often a pair of answers was given.
-fn times(rt: &impl Print, n: u64) -> io::Result<()> {
-    text::word(rt, b"times")?;
-    text::number(rt, n)?;
-    text::end_line(rt)
-}
-
-fn next(at: u16) -> u16 {
-    if at < u16::MAX {
-        return at + 1;
-    }
-    at
-}
-
-fn before(at: u16) -> u16 {
-    if 0 < at {
-        return at - 1;
-    }
-    at
+    println!(rt; "other {q}")
 }
 
 // The next answer; or the one before again, where this one ends a pair that is given more often.
 fn moved(rt: &impl Print, p: Place, n: u64) -> io::Result<Place> {
     if n < 2 {
         return Ok(Place {
-            at: next(p.at),
+            at: p.at.saturating_add(1),
             ..p
         });
     }
     if p.given < n - 1 {
         return Ok(Place {
-            at: before(p.at),
+            at: p.at.saturating_sub(1),
             given: p.given + 1,
             ..p
         });
     }
-    times(rt, n)?;
+    println!(rt; "times {n:x}")?;
     Ok(Place {
-        at: next(p.at),
+        at: p.at.saturating_add(1),
         given: 0,
         ..p
     })
@@ -111,14 +85,13 @@ fn moved(rt: &impl Print, p: Place, n: u64) -> io::Result<Place> {
 
 // No answer is left: the open question.
 fn left_open(rt: &impl Print, p: Place, q: Asked) -> io::Result<Place> {
-    text::word(rt, b"open ")?;
-    asked::line(rt, q)?;
+    println!(rt; "open {q}")?;
     Ok(Place { open: true, ..p })
 }
 
 // The question is written.
 fn onward(rt: &impl Print, p: Place, q: Asked, h: Head, body: &[u8]) -> io::Result<Place> {
-    if q.kind == Asked::FENCE {
+    if q.kind == Kind::Fence {
         return Ok(p);
     }
     if h.answers <= p.at {
@@ -136,20 +109,6 @@ fn onward(rt: &impl Print, p: Place, q: Asked, h: Head, body: &[u8]) -> io::Resu
     moved(rt, told, s.times)
 }
 
-// The number and the values; and whether answers are left.
-fn ended(rt: &impl Print, e: End, early: bool) -> io::Result<()> {
-    text::word(rt, b"ended")?;
-    text::number(rt, e.number as u64)?;
-    text::number(rt, e.a)?;
-    text::number(rt, e.b)?;
-    text::number(rt, e.c)?;
-    text::number(rt, e.d)?;
-    if early {
-        text::word(rt, b" early")?;
-    }
-    text::end_line(rt)
-}
-
 // A run, and its text. A command asks no more than 1,202,000 questions.
 pub(crate) fn ran(rt: &impl Print, h: Head, body: &[u8]) -> io::Result<()> {
     let mut m = start::start(h, body);
@@ -157,14 +116,15 @@ pub(crate) fn ran(rt: &impl Print, h: Head, body: &[u8]) -> io::Result<()> {
     for _ in 0..4000000 {
         let task = m.task;
         if let Task::Over(e) = task {
-            return ended(rt, e, p.at < h.answers);
+            let early = if p.at < h.answers { " early" } else { "" };
+            return println!(rt; "{e}{early}");
         }
         if p.open {
             return Ok(());
         }
-        let q = asked::numbers(machine::asks(m));
+        let q = asked::asked(machine::asks(m));
         m = answered(m, q.kind, p.at, h, body);
         p = onward(rt, p, q, h, body)?;
     }
-    text::word(rt, b"no end\n")
+    println!(rt; "no end")
 }

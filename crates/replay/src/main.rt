@@ -10,124 +10,72 @@ mod records;
 mod tables;
 mod words;
 
-ghost use Rattle.std.specs.Prelude.{◌<◌, ◌≤◌, length, IfOk};
+ghost use Rattle.std.specs.Prelude.{◌≤◌};
 
 use records::Head;
+use std::alloc::Global;
 use std::io;
+use stored::input;
 
-// How many answers of each leaf were compared, and how many of them differ; last those with a number that no leaf has.
+// The bytes behind a head that a record may have.
+const ROOM: usize = 4096;
+
+// How many answers were compared, and how many of them differ.
 #[derive(Clone, Copy)]
 struct Tally {
-    compared: [u64; 38],
-    differ: [u64; 38],
+    compared: u64,
+    differ: u64,
 }
 
-// A record that was read, and whether its answer is the same; the end of the list; or a record that is cut off or too long.
-#[derive(Clone, Copy)]
-enum Read {
-    Record(usize, bool),
-    End,
-    Damaged,
-}
+// The tallies of the leaves, and last of the numbers that no leaf has.
+type Tallies = [Tally; names::NO_LEAF + 1];
 
-// Where a leaf's answers are counted.
-fn slot(leaf: usize) -> usize
-    ensures { result < 38 }
-{
-    if leaf < names::NO_LEAF {
-        return leaf;
-    }
-    names::NO_LEAF
-}
-
-fn counted(t: Tally, leaf: usize, same: bool) -> Tally {
-    let k = slot(leaf);
-    let mut next = t;
-    next.compared[k] = std::num::wrapping_add_u64(t.compared[k], 1);
+fn count(all: &mut Tallies, leaf: u16, same: bool) {
+    let k = usize::from(leaf).min(names::NO_LEAF);
+    let t = &mut all[k];
+    t.compared = t.compared.wrapping_add(1);
     if !same {
-        next.differ[k] = std::num::wrapping_add_u64(t.differ[k], 1);
+        t.differ = t.differ.wrapping_add(1);
     }
-    next
-}
-
-// Reads until the buffer is full or the input ends, and returns how many bytes it put at the buffer's start.
-fn read_full(input: &mut impl io::Read, buf: &mut [u8]) -> io::Result<usize>
-    ensures { IfOk result (λ n. n ≤ length buf.new) }
-{
-    let mut done: usize = 0;
-    for _ in 0..buf.len() {
-        let n = input.read(&mut buf[done..])?;
-        if n == 0 {
-            break;
-        }
-        done = done + n;
-    }
-    Ok(done)
-}
-
-// What follows a head, in a slice that has room for it.
-fn read_body(input: &mut impl io::Read, h: Head, body: &mut [u8]) -> io::Result<Read> {
-    let length = records::length(h);
-    if body.len() < length {
-        return Ok(Read::Damaged);
-    }
-    let n = read_full(input, &mut body[..length])?;
-    if n < length {
-        return Ok(Read::Damaged);
-    }
-    Ok(Read::Record(h.leaf as usize, records::agrees(h, body)))
-}
-
-fn read_record(input: &mut impl io::Read) -> io::Result<Read> {
-    let mut head = [0u8; 8];
-    let n = read_full(input, &mut head)?;
-    if n == 0 {
-        return Ok(Read::End);
-    }
-    let h = records::head_of(&head);
-    let mut body = [0u8; 4096];
-    read_body(input, h, &mut body)
-}
-
-fn line(rt: &impl Print, leaf: usize, compared: u64, differ: u64) -> io::Result<()> {
-    names::print(rt, leaf)?;
-    println!(rt; " {compared} {differ}")
 }
 
 // The leaves that had answers, by number.
-fn report(rt: &impl Print, t: Tally) -> io::Result<()> {
-    for i in 0..38 {
-        if t.compared[i] != 0 {
-            line(rt, i, t.compared[i], t.differ[i])?;
+fn report(rt: &impl Print, all: &Tallies) -> io::Result<()> {
+    for (name, t) in names::NAMES.iter().zip(all) {
+        if t.compared != 0 {
+            println!(rt; "{name} {} {}", t.compared, t.differ)?;
         }
     }
     Ok(())
 }
 
 // No list has so many records; a proved loop has to end.
-fn replay(rt: &impl Print, input: &mut impl io::Read) -> io::Result<Tally> {
-    let mut t = Tally {
-        compared: [0u64; 38],
-        differ: [0u64; 38],
-    };
+fn replay(
+    rt: &impl Print,
+    input: &mut impl io::Read,
+    alloc: Global,
+    all: &mut Tallies,
+) -> io::Result<()> {
     for _ in 0..u64::MAX {
-        match read_record(input)? {
-            Read::Record(leaf, same) => {
-                t = counted(t, leaf, same);
-            }
-            Read::End => {
-                return Ok(t);
-            }
-            Read::Damaged => {
-                println!(rt; "damaged")?;
-                return Ok(t);
-            }
+        let Some(head) = input::head(input, alloc, Head::BYTES)? else {
+            return Ok(());
+        };
+        let h = records::head_of(&head);
+        let mut body = [0u8; ROOM];
+        if !input::filled(input, &mut body, records::length(h))? {
+            return println!(rt; "damaged");
         }
+        count(all, h.leaf, records::agrees(h, &body));
     }
-    Ok(t)
+    Ok(())
 }
 
 fn main(rt: HostRuntime) -> io::Result<()> {
-    let t = replay(&rt, &mut rt.stdin())?;
-    report(&rt, t)
+    let none = Tally {
+        compared: 0,
+        differ: 0,
+    };
+    let mut all = [none; names::NO_LEAF + 1];
+    replay(&rt, &mut rt.stdin(), rt.alloc(), &mut all)?;
+    report(&rt, &all)
 }

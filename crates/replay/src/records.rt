@@ -12,6 +12,10 @@ pub(crate) struct Head {
     pub answer: u16,
 }
 
+impl Head {
+    pub const BYTES: usize = 8;
+}
+
 fn half(s: &[u8], off: usize) -> u16 {
     fields::be16(s, off).unwrap_or(0)
 }
@@ -62,22 +66,10 @@ fn compute(leaf: usize, args: &[u8], bytes: &[u8], out: &mut [u8]) -> bool {
     tables::answer(leaf, args, bytes, out)
 }
 
-fn byte_or_zero(s: &[u8], i: usize) -> u8 {
-    if i < s.len() {
-        return s[i];
-    }
-    0
-}
-
 // The stored bytes, and zeros behind them.
 fn matches(out: &[u8], stored: &[u8]) -> bool {
-    if out.len() < stored.len() {
-        return false;
+    match out.strip_prefix(stored) {
+        Some(rest) => rest.iter().all(|b| *b == 0),
+        None => false,
     }
-    for i in 0..out.len() {
-        if out[i] != byte_or_zero(stored, i) {
-            return false;
-        }
-    }
-    true
 }
