@@ -13,7 +13,7 @@ ghost use Rattle.opening_plan.specs.Plan as p;
 ghost use Rattle.opening_plan.specs.Values as v;
 
 use command::{Catas, CmdResult};
-use dma::{Cutter, Listed, Virt};
+use dma::{Cutter, Listed};
 use hcr::{Hcr, Op};
 use layout::Range;
 use pci::Refusal;
@@ -174,13 +174,13 @@ pub fn range_at(i: usize, m: &[u8]) -> Range
 }
 
 // An area's card address, and its command.
-fn virt_for(a: Area, m: &[u8]) -> Virt
+fn virt_for(a: Area, m: &[u8]) -> Option<u64>
     ensures { VirtIs result a (behind_in m.now) }
 {
     match a {
-        Area::Fa => Virt::Absent,
-        Area::Aux => Virt::Absent,
-        Area::Range(i) => Virt::At(range_at(i, m).virt),
+        Area::Fa => None,
+        Area::Aux => None,
+        Area::Range(i) => Some(range_at(i, m).virt),
     }
 }
 

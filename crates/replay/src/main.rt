@@ -43,9 +43,9 @@ fn slot(leaf: usize) -> usize
 fn counted(t: Tally, leaf: usize, same: bool) -> Tally {
     let k = slot(leaf);
     let mut next = t;
-    next.compared[k] = std::num::wrapping_add_u64(t.compared[k], 1);
+    next.compared[k] = t.compared[k].wrapping_add(1);
     if !same {
-        next.differ[k] = std::num::wrapping_add_u64(t.differ[k], 1);
+        next.differ[k] = t.differ[k].wrapping_add(1);
     }
     next
 }
