@@ -16,7 +16,6 @@ ghost use Rattle.calls.specs.Begins.{behind_for, admitted_as, admitted_next};
 use abi::{SHORT, WRONG};
 use calls_plan::Call;
 use client_plan::Request;
-use dma::Pages;
 use fw_begin::Said;
 use fw_plan::Lent;
 use pci::Refusal;
@@ -129,8 +128,8 @@ fn by_list(lends: usize, bytes: u64) -> Failure
         return Failure::By(Refusal::Full);
     }
     match dma::pages_of(bytes) {
-        Pages::Count(_) => Failure::Nothing,
-        Pages::Refused => Failure::By(Refusal::Address),
+        Ok(_) => Failure::Nothing,
+        Err(_) => Failure::By(Refusal::Address),
     }
 }
 

@@ -1,11 +1,12 @@
 -- An area of an opening: its buffer is made, enters the books, and is mapped mailbox after mailbox.
+use Rattle.std.specs.Prelude.{Option, Some, None}
 use Prim.Native.Nat.{ℕ, zero, suc, ◌+◌, ◌-◌, ◌*◌, ◌/◌, ◌%◌, ◌^◌, ◌≤◌, ◌<◌, max}
 use native.Mathlib.Omega.{arith}
 use native.Mathlib.Nat.{mod-eq_of_lt, max-le}
 use mathlib.Core.Bool.{Bool, true, false, false≢true}
 use mathlib.Core.List.{List, [], ◌∷◌}
 use mathlib.Core.Logic.{◌⊎◌, inl, inr, ⊎_elim}
-use mathlib.Core.Option.{Option, some}
+use mathlib.Core.Option as opt
 use mathlib.Core.Path.{◌≡◌, refl, sym, ◌∙◌, ap, subst}
 use lib.Dec.{eqb, leb, lit≤}
 use borrow.Author.Tests.{eq-eqb, eqb-true, eqb-false, leb-true}
@@ -14,8 +15,6 @@ use Rattle.fields.specs.Outcome.{Outcome, value, refused, value_or, pick}
 use Rattle.dma.specs.Buffers.{pages_for}
 use Rattle.dma.specs.Pages.{blocks_in}
 use Rattle.dma.specs.PageList.{mailbox_of, first_blocks, behind, filled_at}
-use Rattle.dma.specs.declared.Virt.{Virt}
-use Rattle.dma.specs.declared.Virt.TheVariants as v
 use Rattle.dma.specs.declared.Buffer.{Buffer}
 use Rattle.dma.specs.declared.Cutter.{Cutter}
 use Rattle.pci.specs.Script.{Spot}
@@ -94,7 +93,7 @@ pub record Placed (virt bytes : ℕ) : Type 0 where
   pub few : bytes ≤ 2 ^ 36
   pub below : virt + bytes ≤ 2 ^ 42
 
-module _ (base : ℕ → Option Hold) (P : World → Rest → Type 1)
+module _ (base : ℕ → opt.Option Hold) (P : World → Rest → Type 1)
     (back : (n : Info) (y : Failure) (x : Closing) (b : Books) (v : World) → (x ≡ c.Kept → ⊥) → Owns base [] v.host → Quiet Empty v.card → P v (at_rest g.Ended b n y x))
     (kept : (n : Info) (y : Failure) (b : Books) (v : World) → Owns base (named b) v.host → P v (at_rest g.Ended b n y c.Kept)) where
   -- MAILBOX AFTER MAILBOX
@@ -215,10 +214,10 @@ module _ (base : ℕ → Option Hold) (P : World → Rest → Type 1)
       Had = MadePost [] base (named b) (Quiet (Knows b)) (quiet_stable (Knows b)) bound w.host bytes
 
       After : World → Made → Type 1
-      After v y = Had v y × ((v.host.inbox ≡ some (spot_of x.boxes.inbox)) × (v.host.outbox ≡ some (spot_of x.boxes.outbox)))
+      After v y = Had v y × ((v.host.inbox ≡ opt.some (spot_of x.boxes.inbox)) × (v.host.outbox ≡ opt.some (spot_of x.boxes.outbox)))
 
       -- the mailboxes are where they were
-      placed : (k : Host) → (k.inbox ≡ some (spot_of x.boxes.inbox)) × (k.outbox ≡ some (spot_of x.boxes.outbox)) → Boxes b k
+      placed : (k : Host) → (k.inbox ≡ opt.some (spot_of x.boxes.inbox)) × (k.outbox ≡ opt.some (spot_of x.boxes.outbox)) → Boxes b k
       placed k s = record {
         inbox = x.boxes.inbox;
         outbox = x.boxes.outbox;
@@ -253,19 +252,19 @@ module _ (base : ℕ → Option Hold) (P : World → Rest → Type 1)
   whole bytes z e = mod-eq_of_lt (pages_few bytes z.pages e).0
 
   -- a page of the cutter is one of the buffer's
-  run_meets : (z : Buffer) (virt : Virt) (y d k : ℕ) → k ≡ z.pages → OnRun virt z.dev k y d → Meets (spot_of z) d
+  run_meets : (z : Buffer) (virt : Option ℕ) (y d k : ℕ) → k ≡ z.pages → OnRun virt z.dev k y d → Meets (spot_of z) d
   run_meets z virt y d k e (j, l, q, r) = (omega (arith, r), omega (arith, r, l, e))
 
   blocks_meet : (bytes : ℕ) (z : Buffer) → pages_for bytes ≡ value z.pages → Sound z.pages z → (y d : ℕ)
-      → AnyIn (blocks_in 63 (record { virt = v.Absent; phys = z.dev; left = bytes_in z })) y d → Meets (spot_of z) d
-  blocks_meet bytes z e s y d u = run_meets z v.Absent y d (z.pages % 2 ^ 52) (whole bytes z e) ((range_blocks v.Absent z.dev (z.pages % 2 ^ 52) refl s.aligned y d).0 u)
+      → AnyIn (blocks_in 63 (record { virt = None; phys = z.dev; left = bytes_in z })) y d → Meets (spot_of z) d
+  blocks_meet bytes z e s y d u = run_meets z None y d (z.pages % 2 ^ 52) (whole bytes z e) ((range_blocks None z.dev (z.pages % 2 ^ 52) refl s.aligned y d).0 u)
 
   device_end : (z : Buffer) → Sound z.pages z → z.pages % 2 ^ 52 ≡ z.pages → z.dev + z.pages % 2 ^ 52 * 4096 ≤ 2 ^ 64
   device_end z s e = subst (λ (k : ℕ). z.dev + k * 4096 ≤ 2 ^ 64) (sym e) s.fits
 
-  cut_absent : (bytes : ℕ) (z : Buffer) → pages_for bytes ≡ value z.pages → Sound z.pages z → Cutting (record { virt = v.Absent; phys = z.dev; left = bytes_in z })
+  cut_absent : (bytes : ℕ) (z : Buffer) → pages_for bytes ≡ value z.pages → Sound z.pages z → Cutting (record { virt = None; phys = z.dev; left = bytes_in z })
   cut_absent bytes z e s =
-      cutting v.Absent z.dev (z.pages % 2 ^ 52) refl s.aligned (device_end z s (whole bytes z e))
+      cutting None z.dev (z.pages % 2 ^ 52) refl s.aligned (device_end z s (whole bytes z e))
       (let h : 0 + z.pages % 2 ^ 52 * 4096 ≤ 2 ^ 64 = omega arith in h)
 
   boxed : (b d : Books) (w : World) → Boxes b w.host → inbox_of d ≡ inbox_of b → outbox_of d ≡ outbox_of b → Boxes d w.host
@@ -338,7 +337,7 @@ module _ (base : ℕ → Option Hold) (P : World → Rest → Type 1)
             (above INBOX (omega arith) l) (above OUTBOX (omega arith) l);
         entries = ranged_entries b j l (full (range_at n i).virt z) refl (omega (arith, f.1, place.few)) (omega (arith, place.below));
         loud = refl;
-        cut = cutting (v.At (range_at n i).virt) z.dev (z.pages % 2 ^ 52) place.page s.aligned (device_end z s e)
+        cut = cutting (Some (range_at n i).virt) z.dev (z.pages % 2 ^ 52) place.page s.aligned (device_end z s e)
             (omega (arith, e, f.1, place.few, place.below));
         card = (
           x.card.0,
@@ -358,9 +357,9 @@ module _ (base : ℕ → Option Hold) (P : World → Rest → Type 1)
 
       missing : (y d : ℕ) → z.pages % 2 ^ 52 ≡ z.pages → OnRange (full (range_at n i).virt z) y d → AnyIn (blocks_in 63 (cutter_for n (a.Range i) z)) y d
       missing y d e (t, h, p, q) =
-          (range_blocks (v.At (range_at n i).virt) z.dev (z.pages % 2 ^ 52) place.page x.sound.aligned y d).1 tt (t, subst (λ (k : ℕ). t < k) (sym e) h, p, q)
+          (range_blocks (Some (range_at n i).virt) z.dev (z.pages % 2 ^ 52) place.page x.sound.aligned y d).1 tt (t, subst (λ (k : ℕ). t < k) (sym e) h, p, q)
 
       found : (y d : ℕ) → z.pages % 2 ^ 52 ≡ z.pages → AnyIn (blocks_in 63 (cutter_for n (a.Range i) z)) y d → OnRange (full (range_at n i).virt z) y d
       found y d e u =
-          let t = (range_blocks (v.At (range_at n i).virt) z.dev (z.pages % 2 ^ 52) place.page x.sound.aligned y d).0 u in
+          let t = (range_blocks (Some (range_at n i).virt) z.dev (z.pages % 2 ^ 52) place.page x.sound.aligned y d).0 u in
           (t.0, subst (λ (k : ℕ). t.0 < k) e t.1, t.2, t.3)

@@ -1,4 +1,5 @@
 -- The blocks that the card takes from the mailboxes of an area: page k of the range on page k of its buffer, and no more.
+use Rattle.std.specs.Prelude.{Option, Some, None}
 use Prim.Native.Nat.{ℕ, zero, suc, ◌+◌, ◌-◌, ◌*◌, ◌/◌, ◌%◌, ◌^◌, ◌≤◌, ◌<◌}
 use native.Mathlib.Omega.{arith}
 use native.Mathlib.Nat.{add-zero, mod-eq_of_lt}
@@ -14,8 +15,6 @@ use Rattle.dma.specs.Blocks.{virt_of, onward_of, block_at, blocks_of}
 use Rattle.dma.specs.Pages.{table, blocks_in, Within}
 use Rattle.dma.specs.Pages as g
 use Rattle.dma.specs.PageList.{mailbox_of, block_in, list_at, entry_at, Carried, first_blocks, behind}
-use Rattle.dma.specs.declared.Virt.{Virt}
-use Rattle.dma.specs.declared.Virt.TheVariants as v
 use Rattle.dma.specs.declared.Block.{Block}
 use Rattle.dma.specs.declared.Cutter.{Cutter}
 use Rattle.dma.proofs.Tiling.{log_of, blocks-ind}
@@ -87,49 +86,49 @@ pub length_mailbox : (bs : List Block) → length (mailbox_of bs) ≡ 4096
 length_mailbox bs = length_list (replicate 4096 0) 0 bs ∙ length-replicate {A = ℕ} 4096 0
 
 -- A RANGE: n pages from a card address, if there is one, on device pages
-abbrev pub VirtAt : Virt → ℕ → ℕ → Type 0
-VirtAt (v.At at) x k = x ≡ at / 4096 + k
-VirtAt v.Absent x k = Unit {0}
+abbrev pub VirtAt : Option ℕ → ℕ → ℕ → Type 0
+VirtAt (Some at) x k = x ≡ at / 4096 + k
+VirtAt None x k = Unit {0}
 
-abbrev pub OnRun : Virt → (phys n : ℕ) → ℕ → ℕ → Type 0
+abbrev pub OnRun : Option ℕ → (phys n : ℕ) → ℕ → ℕ → Type 0
 OnRun virt phys n x d = (k : ℕ) × (k < n) × VirtAt virt x k × (d ≡ phys / 4096 + k)
 
-abbrev pub IsAt : Virt → Type 0
-IsAt (v.At at) = Unit {0}
-IsAt v.Absent = ⊥
+abbrev pub IsAt : Option ℕ → Type 0
+IsAt (Some at) = Unit {0}
+IsAt None = ⊥
 
 module _ (m b : ℕ) (whole : b ≡ m * 4096) where
-  shift : (virt : Virt) (x k : ℕ) → VirtAt (onward_of virt b) x k → VirtAt virt x (m + k)
-  shift (v.At at) x k e = let h : (at + b) / 4096 ≡ at / 4096 + m = omega (arith, whole) in omega (arith, e, h)
-  shift v.Absent x k e = tt
+  shift : (virt : Option ℕ) (x k : ℕ) → VirtAt (onward_of virt b) x k → VirtAt virt x (m + k)
+  shift (Some at) x k e = let h : (at + b) / 4096 ≡ at / 4096 + m = omega (arith, whole) in omega (arith, e, h)
+  shift None x k e = tt
 
-  unshift : (virt : Virt) (x k : ℕ) → m ≤ k → VirtAt virt x k → VirtAt (onward_of virt b) x (k - m)
-  unshift (v.At at) x k l e = let h : (at + b) / 4096 ≡ at / 4096 + m = omega (arith, whole) in omega (arith, e, h, l)
-  unshift v.Absent x k l e = tt
+  unshift : (virt : Option ℕ) (x k : ℕ) → m ≤ k → VirtAt virt x k → VirtAt (onward_of virt b) x (k - m)
+  unshift (Some at) x k l e = let h : (at + b) / 4096 ≡ at / 4096 + m = omega (arith, whole) in omega (arith, e, h, l)
+  unshift None x k l e = tt
 
-  known_on : (virt : Virt) → IsAt virt → IsAt (onward_of virt b)
-  known_on (v.At at) k = tt
-  known_on v.Absent k = k
+  known_on : (virt : Option ℕ) → IsAt virt → IsAt (onward_of virt b)
+  known_on (Some at) k = tt
+  known_on None k = k
 
-virt_of_lem : (virt : Virt) (x k : ℕ) → x ≡ virt_of virt / 4096 + k → VirtAt virt x k
-virt_of_lem (v.At at) x k e = e
-virt_of_lem v.Absent x k e = tt
+virt_of_lem : (virt : Option ℕ) (x k : ℕ) → x ≡ virt_of virt / 4096 + k → VirtAt virt x k
+virt_of_lem (Some at) x k e = e
+virt_of_lem None x k e = tt
 
-of_virt : (virt : Virt) (x k : ℕ) → IsAt virt → VirtAt virt x k → x ≡ virt_of virt / 4096 + k
-of_virt (v.At at) x k i e = e
-of_virt v.Absent x k i e = absurd i
+of_virt : (virt : Option ℕ) (x k : ℕ) → IsAt virt → VirtAt virt x k → x ≡ virt_of virt / 4096 + k
+of_virt (Some at) x k i e = e
+of_virt None x k i e = absurd i
 
-abbrev Covers : Virt → (phys left : ℕ) → List Block → Type 0
+abbrev Covers : Option ℕ → (phys left : ℕ) → List Block → Type 0
 Covers virt phys left bs =
     (n : ℕ) → left ≡ n * 4096 → virt_of virt % 4096 ≡ 0 → phys % 4096 ≡ 0 → (x d : ℕ) → (AnyIn bs x d → OnRun virt phys n x d) × (IsAt virt → OnRun virt phys n x d → AnyIn bs x d)
 
 allowed : 12 ≤ 63
 allowed = omega arith
 
-none : (virt : Virt) (phys : ℕ) → Covers virt phys 0 []
+none : (virt : Option ℕ) (phys : ℕ) → Covers virt phys 0 []
 none virt phys n e a b x d = (λ z. absurd z, λ i z. let q : ⊥ = omega (arith, e, z.1) in q)
 
-more : (virt : Virt) (phys left : ℕ) (bs : List Block) → 0 < left
+more : (virt : Option ℕ) (phys left : ℕ) (bs : List Block) → 0 < left
     → Covers (onward_of virt (2 ^ log_of 63 virt phys left)) (phys + 2 ^ log_of 63 virt phys left) (left - 2 ^ log_of 63 virt phys left) bs
     → Covers virt phys left (block_at 63 virt phys left ∷ bs)
 more virt phys left bs h r n e a b x d = by_first (first 63 allowed virt phys left n e a b h)
@@ -162,7 +161,7 @@ more virt phys left bs h r n e a b x d = by_first (first 63 allowed virt phys le
               omega (arith, z.3, device, l),
             ))
 
-pub range_blocks : (virt : Virt) (phys n : ℕ) → virt_of virt % 4096 ≡ 0 → phys % 4096 ≡ 0 → (x d : ℕ)
+pub range_blocks : (virt : Option ℕ) (phys n : ℕ) → virt_of virt % 4096 ≡ 0 → phys % 4096 ≡ 0 → (x d : ℕ)
     → (AnyIn (blocks_of 63 virt phys (n * 4096)) x d → OnRun virt phys n x d) × (IsAt virt → OnRun virt phys n x d → AnyIn (blocks_of 63 virt phys (n * 4096)) x d)
 range_blocks virt phys n a b = blocks-ind 63 Covers none more virt phys (n * 4096) n refl a b
 
@@ -219,7 +218,7 @@ module _ (k : Cutter) (x : Cutting k) where
   none_left e y d z = subst (λ (bs : List Block). AnyIn bs y d) (blocks_none 63 k.virt k.phys k.left e) z
 
 -- the cutter of a whole buffer
-pub cutting : (virt : Virt) (phys n : ℕ) → virt_of virt % 4096 ≡ 0 → phys % 4096 ≡ 0 → phys + n * 4096 ≤ 2 ^ 64 → virt_of virt + n * 4096 ≤ 2 ^ 64
+pub cutting : (virt : Option ℕ) (phys n : ℕ) → virt_of virt % 4096 ≡ 0 → phys % 4096 ≡ 0 → phys + n * 4096 ≤ 2 ^ 64 → virt_of virt + n * 4096 ≤ 2 ^ 64
     → Cutting (record { virt = virt; phys = phys; left = n * 4096 })
 cutting virt phys n a b p q =
     let w : Within (record { virt = virt; phys = phys; left = n * 4096 }) = record { host = p; card = q } in

@@ -1,10 +1,9 @@
 -- Laws of the page list: the turns of the loop that writes it, and that an entry fits.
 use Rattle.std.specs.Prelude.{Some, None}
 use Rattle.std.proofs.Math.Option as m
-use Rattle.std.proofs.Common.{◌≡◌, Bool, true, false, eqb, eqb-true, ℕ, zero, suc, ◌+◌, ◌-◌, ◌*◌, ◌/◌, ◌%◌, ◌^◌, ◌<◌, ◌≤◌, List, [], ◌∷◌, length, sym, refl, ap, ◌∙◌, ap₂, add-zero, mul-le-mul_right, suc-mul, lt_of_mul-lt-mul_right, pow-suc, div-add-mod', sub-add_cancel, add-one, arith, pow-add, eq-eqb, ne_eqb, le-leb}
+use Rattle.std.proofs.Common.{◌≡◌, Bool, true, false, eqb, eqb-true, ℕ, zero, suc, ◌+◌, ◌-◌, ◌*◌, ◌/◌, ◌%◌, ◌^◌, ◌<◌, ◌≤◌, List, [], ◌∷◌, length, sym, refl, ap, ◌∙◌, ap₂, add-zero, mul-le-mul_right, suc-mul, lt_of_mul-lt-mul_right, pow-suc, div-add-mod', sub-add_cancel, add-one, arith, pow-add, eq-eqb, ne_eqb}
 use Rattle.fields.specs.Outcome.{pick}
-use Rattle.fields.specs.Fields.{put_at, written_at}
-use Rattle.fields.specs.declared.Order.{Order}
+use Rattle.fields.specs.Fields.{put_at}
 use Rattle.fields.specs.declared.Order.TheVariants.{Big}
 use Rattle.fields.proofs.Laws.{length_put}
 use Rattle.dma.specs.Blocks.{block_of, rest_of, virt_of, exponent_of, cut_of, piece}
@@ -14,19 +13,8 @@ use Rattle.dma.specs.declared.Cutter.{Cutter}
 use Rattle.dma.specs.declared.Listed.{Listed}
 use Rattle.dma.proofs.Exponent.{exponent_stands, exponent_le}
 
--- a field within the bytes is written
-pub written_is : (o : Order) (s : List ℕ) (off w v : ℕ) → off + w ≤ length s → written_at o s off w v ≡ put_at o s off w v
-written_is o s off w v h = rw (le-leb (off + w) (length s) h)
-
 pub length_entry : (s : List ℕ) (k : ℕ) (b : Block) → length (entry_at s k b) ≡ length s
 length_entry s k b = length_put Big (put_at Big s (k * 16) 8 b.virt) (k * 16 + 8) 8 (word_of b) ∙ length_put Big s (k * 16) 8 b.virt
-
--- two fields written at place k are the block's entry
-pub entry_is : (s : List ℕ) (k : ℕ) (b : Block) → k * 16 + 16 ≤ length s
-    → written_at Big (written_at Big s (k * 16) 8 b.virt) (k * 16 + 8) 8 (word_of b) ≡ entry_at s k b
-entry_is s k b h =
-    ap (λ (x : List ℕ). written_at Big x (k * 16 + 8) 8 (word_of b)) (written_is Big s (k * 16) 8 b.virt (omega arith))
-    ∙ written_is Big (put_at Big s (k * 16) 8 b.virt) (k * 16 + 8) 8 (word_of b) (omega (arith, length_put Big s (k * 16) 8 b.virt))
 
 module _ (largest : ℕ) (c : Cutter) where
   -- nothing is cut of a range with nothing left

@@ -10,7 +10,7 @@ ghost use Rattle.bytes_plan.specs.Left.{headed_in};
 ghost use Rattle.abi.specs.Kept.{Writes};
 ghost use Rattle.fw_begin.specs.Begins as b;
 
-use dma::PageList;
+use dma::Listed;
 use fw_plan::Lent;
 use init::InitHca;
 use pci::{Answer, Question};
@@ -39,9 +39,9 @@ fn fill_list(s: Core, c: dma::Cutter, inbox: &mut [u8], m: &[u8]) -> Core
     ensures with_slots { WithSlots (behind_in m.now) (λ b. full result b ≡ f.filled_list c (full s b) inbox.old) }
     ensures inbox_after { inbox.new ≡ f.list_in c inbox.old }
 {
-    match dma::fill(inbox, 63, c, PageList::CAPACITY) {
-        PageList::Filled(y) => opening_values::lists(s, y, m),
-        PageList::Short => s,
+    match dma::fill(inbox, 63, c, Listed::CAPACITY) {
+        Ok(y) => opening_values::lists(s, y, m),
+        Err(_) => s,
     }
 }
 

@@ -28,7 +28,7 @@ pub fn leaf_blocks(has: bool, virt: u64, phys: u64, size: u64, out: &mut [u8]) -
     ensures value { result ≡ said 5 out.old }
     ensures out_after { out.new ≡ answer 5 out.old (started_words (start_at (virt_from has virt) phys size)) }
 {
-    let w = answers::memory::started_words(dma::blocks(
+    let w = answers::memory::started_words(dma::Cutter::new(
         answers::memory::virt_from(has, virt),
         phys,
         size,
@@ -41,10 +41,8 @@ pub fn leaf_cut(largest: u32, has: bool, virt: u64, phys: u64, left: u64, out: &
     ensures value { result ≡ said 8 out.old }
     ensures out_after { out.new ≡ answer 8 out.old (piece_words (cut_of largest (cutter_from has virt phys left))) }
 {
-    let w = answers::memory::piece_words(dma::cut(
-        largest,
-        answers::memory::cutter_from(has, virt, phys, left),
-    ));
+    let c = answers::memory::cutter_from(has, virt, phys, left);
+    let w = answers::memory::piece_words(c.cut(largest));
     words::give(out, &w)
 }
 

@@ -1,10 +1,8 @@
 -- What an opening notes as it goes: in the books, and of what the card says.
-use Rattle.std.specs.Prelude.{ℕ, ◌+◌, Bool, true, List, [], ◌∷◌, eqb, ltb, get_or}
+use Rattle.std.specs.Prelude.{ℕ, ◌+◌, Bool, true, List, [], ◌∷◌, eqb, ltb, get_or, Option, Some, None}
 use Rattle.fields.specs.Outcome.{value_or, pick}
 use Rattle.bars.specs.declared.Pick.{Pick}
 use Rattle.dma.specs.declared.Buffer.{Buffer}
-use Rattle.dma.specs.declared.Virt.{Virt}
-use Rattle.dma.specs.declared.Virt.TheVariants as v
 use Rattle.dma.specs.declared.Cutter.{Cutter}
 use Rattle.pci.specs.declared.Refusal.{Refusal}
 use Rattle.pci.specs.declared.Refusal.TheVariants as x
@@ -87,10 +85,10 @@ abbrev pub range_at : Info → ℕ → Range
 range_at n i = range_in (layout_in n).ranges i
 
 -- an area's card address, and its command
-abbrev pub virt_for : Info → Area → Virt
-virt_for n a.Fa = v.Absent
-virt_for n a.Aux = v.Absent
-virt_for n (a.Range i) = v.At (range_at n i).virt
+abbrev pub virt_for : Info → Area → Option ℕ
+virt_for n a.Fa = None
+virt_for n a.Aux = None
+virt_for n (a.Range i) = Some (range_at n i).virt
 
 abbrev pub op_for : Area → ℕ
 op_for a.Fa = 0xfff

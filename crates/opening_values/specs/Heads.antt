@@ -1,6 +1,5 @@
 -- What is said of a head and of what stands behind it, in the terms of the session that they are.
-use Rattle.std.specs.Prelude.{◌≡◌}
-use Rattle.dma.specs.declared.Virt.{Virt}
+use Rattle.std.specs.Prelude.{◌≡◌, ℕ, Option}
 use Rattle.dma.specs.declared.Cutter.{Cutter}
 use Rattle.reply.specs.declared.DevCap.{DevCap}
 use Rattle.session.specs.declared.Area.{Area}
@@ -17,7 +16,7 @@ abbrev pub CapIs : Core → DevCap → Core → Type 0
 CapIs r c s = (b : Behind) → full r (capped c b) ≡ informs (full s b) (with_cap (full s b).info c)
 
 -- an area's card address, and what is to be cut of it: they are all read behind the head, so that they are those of any head
-abbrev pub VirtIs : Virt → Area → Behind → Type 0
+abbrev pub VirtIs : Option ℕ → Area → Behind → Type 0
 VirtIs r a b = (c : Core) → r ≡ virt_for (full c b).info a
 
 abbrev pub CutIs : Cutter → Area → Behind → Type 0

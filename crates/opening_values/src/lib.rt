@@ -14,7 +14,7 @@ ghost use Rattle.opening_plan.specs.Values as v;
 
 use bars::Pick;
 use command::{Catas, CmdResult};
-use dma::{Cutter, Listed, Virt};
+use dma::{Cutter, Listed};
 use hcr::{Hcr, Op};
 use layout::Range;
 use pci::Refusal;
@@ -175,13 +175,13 @@ pub fn range_at(i: usize, m: &[u8]) -> Range
 }
 
 // An area's card address, and its command.
-fn virt_for(a: Area, m: &[u8]) -> Virt
+fn virt_for(a: Area, m: &[u8]) -> Option<u64>
     ensures { VirtIs result a (behind_in m.now) }
 {
     match a {
-        Area::Fa => Virt::Absent,
-        Area::Aux => Virt::Absent,
-        Area::Range(i) => Virt::At(range_at(i, m).virt),
+        Area::Fa => None,
+        Area::Aux => None,
+        Area::Range(i) => Some(range_at(i, m).virt),
     }
 }
 

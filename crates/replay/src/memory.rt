@@ -2,7 +2,7 @@
 ghost use Rattle.std.specs.Prelude.{◌≤◌};
 
 use crate::words;
-use dma::{Block, Cutter, PageList, Piece, Started, Virt};
+use dma::{Block, Cutter, Listed};
 
 pub(crate) const END: usize = 24;
 
@@ -27,33 +27,29 @@ pub(crate) fn answer(leaf: usize, args: &[u8], out: &mut [u8]) -> bool {
     true
 }
 
-fn virt(args: &[u8]) -> Virt {
+fn virt(args: &[u8]) -> Option<u64> {
     if words::is_set(args, 0) {
-        return Virt::At(words::word(args, 1));
+        return Some(words::word(args, 1));
     }
-    Virt::Absent
+    None
 }
 
 // The refusal's number, or 0 and every block.
 fn blocks(args: &[u8], out: &mut [u8]) {
-    match dma::blocks(virt(args), words::word(args, 2), words::word(args, 3)) {
-        Started::Ready(c) => cut_all(c, out),
-        Started::Refused => words::put(out, 0, 18),
+    match Cutter::new(virt(args), words::word(args, 2), words::word(args, 3)) {
+        Ok(c) => cut_all(c, out),
+        Err(_) => words::put(out, 0, 18),
     }
 }
 
 fn cut_all(start: Cutter, out: &mut [u8]) {
     let mut c = start;
     for i in 0..180 {
-        match dma::cut(Block::LOG_MAX, c) {
-            Piece::Next(b, rest) => {
-                put_block(out, 3 * i + 1, b);
-                c = rest;
-            }
-            Piece::End => {
-                return;
-            }
-        }
+        let Some((b, rest)) = c.cut(Block::LOG_MAX) else {
+            return;
+        };
+        put_block(out, 3 * i + 1, b);
+        c = rest;
     }
 }
 
@@ -74,12 +70,9 @@ fn rest_of(args: &[u8], left: u64) -> Cutter {
 }
 
 fn first_block(args: &[u8], out: &mut [u8]) {
-    match dma::cut(Block::LOG_MAX, rest_of(args, words::word(args, 3))) {
-        Piece::Next(b, _) => {
-            words::put(out, 0, 1);
-            put_block(out, 1, b);
-        }
-        Piece::End => (),
+    if let Some((b, _)) = rest_of(args, words::word(args, 3)).cut(Block::LOG_MAX) {
+        words::put(out, 0, 1);
+        put_block(out, 1, b);
     }
 }
 
@@ -90,13 +83,13 @@ fn fill(args: &[u8], out: &mut [u8]) {
     }
     let pages = words::word(args, 3) % 65536;
     let c = rest_of(args, pages * dma::PAGE);
-    match dma::fill(
+    let filled = dma::fill(
         &mut out[MAILBOX_AT..MAILBOX_END],
         Block::LOG_MAX,
         c,
-        PageList::CAPACITY,
-    ) {
-        PageList::Filled(m) => words::put(out, 0, m.entries as u64),
-        PageList::Short => (),
+        Listed::CAPACITY,
+    );
+    if let Ok(m) = filled {
+        words::put(out, 0, m.entries as u64);
     }
 }

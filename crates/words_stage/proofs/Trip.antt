@@ -1,4 +1,5 @@
 -- What was put into words is read back from them.
+use Rattle.std.specs.Prelude.{ℕ, Option, Some, None}
 use Prim.Native.Nat.{◌<◌}
 use mathlib.Core.Path.{◌≡◌, refl, ap}
 use native.Mathlib.Nat.{mod-eq_of_lt}
@@ -12,8 +13,6 @@ use Rattle.words_books.specs.Coding.{refusal_words}
 use Rattle.words_books.proofs.Trip.{refusal_back, refusal_small}
 use Rattle.words_stage.specs.Coding.{virt_words, virt_of, cutter_words, cutter_of, area_words, area_of, prepare_words, prepare_of, boot_words, boot_of, close_words, close_of, form_words, form_of, client_words, client_of, gave_words, gave_of, stage_words, stage_of}
 use Rattle.words_stage.specs.Fits.{VirtFits, CutterFits, AreaFits, PrepareFits, BootFits, CloseFits, FormFits, ClientFits, GaveFits, StageFits}
-use Rattle.dma.specs.declared.Virt.{Virt}
-use Rattle.dma.specs.declared.Virt.TheVariants as vv
 use Rattle.dma.specs.declared.Cutter.{Cutter}
 use Rattle.session.specs.declared.Area.{Area}
 use Rattle.session.specs.declared.Area.TheVariants as av
@@ -32,14 +31,14 @@ use Rattle.session.specs.declared.Gave.TheVariants as gv
 use Rattle.session.specs.declared.Stage.{Stage}
 use Rattle.session.specs.declared.Stage.TheVariants as sv
 
-pub virt_back : (v : Virt) → VirtFits v → virt_of (at (virt_words v) 0) (at (virt_words v) 1) ≡ v
-virt_back (vv.At x) f = refl
-virt_back vv.Absent f = refl
+pub virt_back : (v : Option ℕ) → VirtFits v → virt_of (at (virt_words v) 0) (at (virt_words v) 1) ≡ v
+virt_back (Some x) f = refl
+virt_back None f = refl
 
-pub virt_small : (v : Virt) → VirtFits v → Words (virt_words v)
+pub virt_small : (v : Option ℕ) → VirtFits v → Words (virt_words v)
 unfolding Words
-virt_small (vv.At x) f = (lit< tt, (f, tt))
-virt_small vv.Absent f = (lit< tt, (lit< tt, tt))
+virt_small (Some x) f = (lit< tt, (f, tt))
+virt_small None f = (lit< tt, (lit< tt, tt))
 
 pub cutter_back : (v : Cutter) → CutterFits v → cutter_of (at (cutter_words v) 0) (at (cutter_words v) 1) (at (cutter_words v) 2) (at (cutter_words v) 3) ≡ v
 cutter_back v f = simp (virt_back v.virt f.virt)

@@ -1,9 +1,10 @@
 -- A value of its type fits, part by part of the stage: each number is below the bound of its width. How what the language says of a value is read: words/proofs/Typed.antt.
+use Rattle.std.specs.Prelude.{ℕ, Option, Some, None}
 use mathlib.Core.List.{List}
 use mir.Val.{Val}
 use denote.Laws.{Is}
+use Rattle.std.specs.Borrow.{u64}
 use Rattle.words_books.proofs.Typed.{refusal_typed}
-use Rattle.dma.specs.declared.Virt.{Virt}
 use Rattle.dma.specs.declared.Cutter.{Cutter}
 use Rattle.session.specs.declared.Area.{Area}
 use Rattle.session.specs.declared.Prepare.{Prepare}
@@ -13,7 +14,6 @@ use Rattle.session.specs.declared.Form.{Form}
 use Rattle.session.specs.declared.Client.{Client}
 use Rattle.session.specs.declared.Gave.{Gave}
 use Rattle.session.specs.declared.Stage.{Stage}
-use Rattle.dma.specs.declared.Virt.TheVariants as virt
 use Rattle.session.specs.declared.Area.TheVariants as area
 use Rattle.session.specs.declared.Prepare.TheVariants as prepare
 use Rattle.session.specs.declared.Boot.TheVariants as boot
@@ -22,7 +22,7 @@ use Rattle.session.specs.declared.Form.TheVariants as form
 use Rattle.session.specs.declared.Client.TheVariants as client
 use Rattle.session.specs.declared.Gave.TheVariants as gave
 use Rattle.session.specs.declared.Stage.TheVariants as stage
-use Rattle.dma.specs.contracts.Virt.{the_row as virt-row}
+use Rattle.std.specs.contracts.option.Option as option
 use Rattle.dma.specs.contracts.Cutter.{the_row as cutter-row}
 use Rattle.session.specs.contracts.Area.{the_row as area-row}
 use Rattle.session.specs.contracts.Prepare.{the_row as prepare-row}
@@ -34,9 +34,9 @@ use Rattle.session.specs.contracts.Gave.{the_row as gave-row}
 use Rattle.session.specs.contracts.Stage.{the_row as stage-row}
 use Rattle.words_stage.specs.Fits.{VirtFits, CutterFits, AreaFits, PrepareFits, BootFits, CloseFits, FormFits, ClientFits, GaveFits, StageFits}
 
-pub virt_typed : (v : Virt) (vs : List Val) → Is virt-row v vs → VirtFits v
-virt_typed (virt.At x) vs h = h.1.1.1.1.0.1
-virt_typed virt.Absent vs h = tt
+pub virt_typed : (v : Option ℕ) (vs : List Val) → Is (option.the_row u64) v vs → VirtFits v
+virt_typed (Some x) vs h = h.1.1.1.1.0.1
+virt_typed None vs h = tt
 
 pub cutter_typed : (v : Cutter) (vs : List Val) → Is cutter-row v vs → CutterFits v
 cutter_typed v vs h = record {

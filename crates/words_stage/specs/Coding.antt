@@ -1,10 +1,8 @@
 -- How far a session has come, as words: its number in the order of the enum, then what it carries.
-use Rattle.std.specs.Prelude.{ℕ, ◌%◌, List, [], ◌∷◌, eqb}
+use Rattle.std.specs.Prelude.{ℕ, ◌%◌, List, [], ◌∷◌, eqb, Option, Some, None}
 use Rattle.fields.specs.Outcome.{pick}
 use Rattle.words.specs.Words.{at}
 use Rattle.words_books.specs.Coding.{refusal_words, refusal_of}
-use Rattle.dma.specs.declared.Virt.{Virt}
-use Rattle.dma.specs.declared.Virt.TheVariants as vv
 use Rattle.dma.specs.declared.Cutter.{Cutter}
 use Rattle.session.specs.declared.Area.{Area}
 use Rattle.session.specs.declared.Area.TheVariants as av
@@ -24,14 +22,14 @@ use Rattle.session.specs.declared.Stage.{Stage}
 use Rattle.session.specs.declared.Stage.TheVariants as sv
 
 -- a card address, or none
-abbrev pub virt_words : Virt → List ℕ
-virt_words (vv.At x) = 0 ∷ x ∷ []
-virt_words vv.Absent = 1 ∷ 0 ∷ []
+abbrev pub virt_words : Option ℕ → List ℕ
+virt_words (Some x) = 0 ∷ x ∷ []
+virt_words None = 1 ∷ 0 ∷ []
 
-abbrev pub virt_of : (tag a : ℕ) → Virt
+abbrev pub virt_of : (tag a : ℕ) → Option ℕ
 virt_of tag a =
-    pick (eqb tag 1) vv.Absent (
-    vv.At a)
+    pick (eqb tag 1) None (
+    Some a)
 
 -- a range that is still to be cut
 abbrev pub cutter_words : Cutter → List ℕ

@@ -1,8 +1,6 @@
 -- Each number is one of its type, and each array has its length.
-use Rattle.std.specs.Prelude.{◌^◌, ◌<◌}
+use Rattle.std.specs.Prelude.{ℕ, ◌^◌, ◌<◌, Option, Some, None}
 use Rattle.words_books.specs.Fits.{RefusalFits}
-use Rattle.dma.specs.declared.Virt.{Virt}
-use Rattle.dma.specs.declared.Virt.TheVariants as vv
 use Rattle.dma.specs.declared.Cutter.{Cutter}
 use Rattle.session.specs.declared.Area.{Area}
 use Rattle.session.specs.declared.Area.TheVariants as av
@@ -21,9 +19,9 @@ use Rattle.session.specs.declared.Gave.TheVariants as gv
 use Rattle.session.specs.declared.Stage.{Stage}
 use Rattle.session.specs.declared.Stage.TheVariants as sv
 
-abbrev pub VirtFits : Virt → Type 0
-VirtFits (vv.At x) = x < 2 ^ 64
-VirtFits vv.Absent = Unit {0}
+abbrev pub VirtFits : Option ℕ → Type 0
+VirtFits (Some x) = x < 2 ^ 64
+VirtFits None = Unit {0}
 
 pub record CutterFits (v : Cutter) : Type 0 where
   pub virt : VirtFits v.virt

@@ -6,25 +6,25 @@ ghost use Rattle.words_stage.specs.Coding.{virt_words, virt_of, cutter_words, cu
 ghost use Rattle.words_stage.specs.Coding.{boot_words, boot_of, close_words, close_of, form_words, form_of, client_words, client_of, gave_words, gave_of};
 ghost use Rattle.words_stage.specs.Coding.{stage_words, stage_of};
 
-use dma::{Cutter, Virt};
+use dma::Cutter;
 use session::{Area, Boot, Client, Close, Form, Gave, Prepare, Stage};
 
 // A card address, or none.
-fn virt_words(v: Virt) -> [u64; 2]
+fn virt_words(v: Option<u64>) -> [u64; 2]
     ensures { result ≡ virt_words v }
 {
     match v {
-        Virt::At(x) => [0, x],
-        Virt::Absent => [1, 0],
+        Some(x) => [0, x],
+        None => [1, 0],
     }
 }
 
-fn virt_from(tag: u64, a: u64) -> Virt
+fn virt_from(tag: u64, a: u64) -> Option<u64>
     ensures { result ≡ virt_of tag a }
 {
     match tag {
-        1 => Virt::Absent,
-        _ => Virt::At(a),
+        1 => None,
+        _ => Some(a),
     }
 }
 
@@ -32,9 +32,8 @@ fn virt_from(tag: u64, a: u64) -> Virt
 fn cutter_words(v: Cutter) -> [u64; 4]
     ensures { result ≡ cutter_words v }
 {
-    let virt = v.virt;
-    let virt_w = virt_words(virt);
-    [virt_w[0], virt_w[1], v.phys, v.left]
+    let w = virt_words(v.virt);
+    [w[0], w[1], v.phys, v.left]
 }
 
 fn cutter_from(a: u64, b: u64, d: u64, e: u64) -> Cutter

@@ -1,8 +1,7 @@
 -- WRONG ANSWERS. A contract is an equation of the answer with a definition, so a function that answers otherwise at one input does not meet it. A row has what the definition
 -- gives at an input, as numbers, and two answers that a wrong function would give there. The theorem `wrong_refused` of proofs/ says that neither is the definition's.
-use Rattle.std.specs.Prelude as std
-use Rattle.std.specs.Prelude.{ℕ, ◌-◌, ◌^◌, Bool, true, false, List, [], ◌∷◌, ◌++◌, ◌≡◌, eqb, length, replicate, get_or, take, leb, Result, Ok, Err}
-use Rattle.std.proofs.Math.Option.{Option, some, none}
+use Rattle.std.specs.Prelude.{ℕ, ◌-◌, ◌^◌, Bool, true, false, List, [], ◌∷◌, ◌++◌, ◌≡◌, eqb, length, replicate, get_or, take, leb, Result, Ok, Err, Option, Some, None}
+use Rattle.std.proofs.Math.Option as m
 use Rattle.fields.specs.Outcome.{Outcome, value, refused, number_of, pick}
 use Rattle.fields.specs.Fields.{fits, field_at, write_at, written_at, put_at}
 use Rattle.fields.specs.declared.Order.{Order}
@@ -14,8 +13,6 @@ use Rattle.dma.specs.Buffers.{pages_for, accept_at}
 use Rattle.dma.specs.Blocks.{start_at, cut_of}
 use Rattle.dma.specs.Pages.{pair_at}
 use Rattle.dma.specs.PageList.{fill_at, filled_at}
-use Rattle.dma.specs.declared.Virt.{Virt}
-use Rattle.dma.specs.declared.Virt.TheVariants as v
 use Rattle.dma.specs.declared.Block.{Block}
 use Rattle.dma.specs.declared.Cutter.{Cutter}
 use Rattle.dma.specs.declared.Listed.{Listed}
@@ -60,9 +57,9 @@ abbrev pub told_pair : Outcome (ℕ × ℕ) → List ℕ
 told_pair (value p) = 0 ∷ p.0 ∷ p.1 ∷ []
 told_pair (refused n vs) = n ∷ vs
 
-abbrev pub told_range : Option (ℕ × ℕ) → List ℕ
-told_range none = []
-told_range (some p) = p.0 ∷ p.1 ∷ []
+abbrev pub told_range : m.Option (ℕ × ℕ) → List ℕ
+told_range m.none = []
+told_range (m.some p) = p.0 ∷ p.1 ∷ []
 
 abbrev pub yes : Bool → ℕ
 yes true = 1
@@ -254,21 +251,21 @@ words =
     []
 
 -- a card address, a range that is to be cut, and a block, as numbers
-abbrev pub virt_numbers : Virt → List ℕ
-virt_numbers (v.At at) = 1 ∷ at ∷ []
-virt_numbers v.Absent = 0 ∷ []
+abbrev pub virt_numbers : Option ℕ → List ℕ
+virt_numbers (Some at) = 1 ∷ at ∷ []
+virt_numbers None = 0 ∷ []
 
 abbrev pub cutter_numbers : Cutter → List ℕ
 cutter_numbers c = virt_numbers c.virt ++ (c.phys ∷ c.left ∷ [])
 
-abbrev pub told_piece : Option (Block × Cutter) → List ℕ
-told_piece none = []
-told_piece (some p) = p.0.virt ∷ p.0.phys ∷ p.0.log ∷ cutter_numbers p.1
+abbrev pub told_piece : m.Option (Block × Cutter) → List ℕ
+told_piece m.none = []
+told_piece (m.some p) = p.0.virt ∷ p.0.phys ∷ p.0.log ∷ cutter_numbers p.1
 
 abbrev pub listed_numbers : Listed → List ℕ
 listed_numbers m = m.entries ∷ cutter_numbers m.rest
 
-abbrev cutter : Virt → (phys left : ℕ) → Cutter
+abbrev cutter : Option ℕ → (phys left : ℕ) → Cutter
 cutter at p n = record { virt = at; phys = p; left = n }
 
 -- the first bytes of a mailbox that held ones
@@ -291,52 +288,52 @@ buffers =
     -- accept, refused (2^52 pages, more bytes than a buffer may have): accepted; refused with 5
     row (told_unit (accept_at 0 (2 ^ 52))) (0 ∷ []) (5 ∷ []) ∷
     -- blocks: an absent card address is 0; the end for the bytes left
-    row (told_by cutter_numbers (start_at v.Absent 0x3000 0x5000)) (0 ∷ 1 ∷ 0 ∷ 0x3000 ∷ 0x5000 ∷ []) (0 ∷ 0 ∷ 0x3000 ∷ 0x8000 ∷ []) ∷
+    row (told_by cutter_numbers (start_at None 0x3000 0x5000)) (0 ∷ 1 ∷ 0 ∷ 0x3000 ∷ 0x5000 ∷ []) (0 ∷ 0 ∷ 0x3000 ∷ 0x8000 ∷ []) ∷
     -- blocks: card and host address exchanged; the card address left out
-    row (told_by cutter_numbers (start_at (v.At 0x1000) 0x3000 0x5000)) (0 ∷ 1 ∷ 0x3000 ∷ 0x1000 ∷ 0x5000 ∷ []) (0 ∷ 0 ∷ 0x3000 ∷ 0x5000 ∷ []) ∷
+    row (told_by cutter_numbers (start_at (Some 0x1000) 0x3000 0x5000)) (0 ∷ 1 ∷ 0x3000 ∷ 0x1000 ∷ 0x5000 ∷ []) (0 ∷ 0 ∷ 0x3000 ∷ 0x5000 ∷ []) ∷
     -- blocks, refused (half a page): taken; rounded down to a page
-    row (told_by cutter_numbers (start_at v.Absent 0x1800 0x1000)) (0 ∷ 0 ∷ 0x1800 ∷ 0x1000 ∷ []) (0 ∷ 0 ∷ 0x1000 ∷ 0x1000 ∷ []) ∷
+    row (told_by cutter_numbers (start_at None 0x1800 0x1000)) (0 ∷ 0 ∷ 0x1800 ∷ 0x1000 ∷ []) (0 ∷ 0 ∷ 0x1000 ∷ 0x1000 ∷ []) ∷
     -- blocks that end at exactly 2^64: refused; nothing left
-    row (told_by cutter_numbers (start_at v.Absent (2 ^ 64 - 4096) 4096)) (18 ∷ []) (0 ∷ 0 ∷ 0xfffffffffffff000 ∷ 0 ∷ []) ∷
+    row (told_by cutter_numbers (start_at None (2 ^ 64 - 4096) 4096)) (18 ∷ []) (0 ∷ 0 ∷ 0xfffffffffffff000 ∷ 0 ∷ []) ∷
     -- blocks, refused (a card address that ends above 2^64): taken; refused with 17
-    row (told_by cutter_numbers (start_at (v.At (2 ^ 64 - 4096)) 0x1000 0x2000)) (0 ∷ 1 ∷ 0xfffffffffffff000 ∷ 0x1000 ∷ 0x2000 ∷ []) (17 ∷ []) ∷
+    row (told_by cutter_numbers (start_at (Some (2 ^ 64 - 4096)) 0x1000 0x2000)) (0 ∷ 1 ∷ 0xfffffffffffff000 ∷ 0x1000 ∷ 0x2000 ∷ []) (17 ∷ []) ∷
     -- blocks, refused (more bytes than a buffer may have): taken; cut to whole pages
-    row (told_by cutter_numbers (start_at v.Absent 0 (2 ^ 64 - 1)))
+    row (told_by cutter_numbers (start_at None 0 (2 ^ 64 - 1)))
     (0 ∷ 0 ∷ 0 ∷ 0xffffffffffffffff ∷ []) (0 ∷ 0 ∷ 0 ∷ 0xfffffffffffff000 ∷ []) ∷
     -- blocks of the most bytes: refused; a byte left out
-    row (told_by cutter_numbers (start_at v.Absent 0 (2 ^ 64 - 4096))) (18 ∷ []) (0 ∷ 0 ∷ 0 ∷ 0xffffffffffffefff ∷ []) ∷
+    row (told_by cutter_numbers (start_at None 0 (2 ^ 64 - 4096))) (18 ∷ []) (0 ∷ 0 ∷ 0 ∷ 0xffffffffffffefff ∷ []) ∷
     -- cut: the next block starts where this one did; as many bytes left
-    row (told_piece (cut_of 63 (cutter v.Absent 0x3000 0x5000))) (0 ∷ 0x3000 ∷ 12 ∷ 0 ∷ 0x3000 ∷ 0x4000 ∷ []) (0 ∷ 0x3000 ∷ 12 ∷ 0 ∷ 0x4000 ∷ 0x5000 ∷ []) ∷
+    row (told_piece (cut_of 63 (cutter None 0x3000 0x5000))) (0 ∷ 0x3000 ∷ 12 ∷ 0 ∷ 0x3000 ∷ 0x4000 ∷ []) (0 ∷ 0x3000 ∷ 12 ∷ 0 ∷ 0x4000 ∷ 0x5000 ∷ []) ∷
     -- cut to the end: an exponent one too small; one too large
-    row (told_piece (cut_of 63 (cutter v.Absent 0x8000 0x4000))) (0 ∷ 0x8000 ∷ 13 ∷ 0 ∷ 0xa000 ∷ 0x2000 ∷ []) (0 ∷ 0x8000 ∷ 15 ∷ 0 ∷ 0x10000 ∷ 0 ∷ []) ∷
+    row (told_piece (cut_of 63 (cutter None 0x8000 0x4000))) (0 ∷ 0x8000 ∷ 13 ∷ 0 ∷ 0xa000 ∷ 0x2000 ∷ []) (0 ∷ 0x8000 ∷ 15 ∷ 0 ∷ 0x10000 ∷ 0 ∷ []) ∷
     -- cut with 12 the largest: larger than allowed; one less than allowed
-    row (told_piece (cut_of 12 (cutter v.Absent 0x4000 0x4000))) (0 ∷ 0x4000 ∷ 14 ∷ 0 ∷ 0x8000 ∷ 0 ∷ []) (0 ∷ 0x4000 ∷ 11 ∷ 0 ∷ 0x4800 ∷ 0x3800 ∷ []) ∷
+    row (told_piece (cut_of 12 (cutter None 0x4000 0x4000))) (0 ∷ 0x4000 ∷ 14 ∷ 0 ∷ 0x8000 ∷ 0 ∷ []) (0 ∷ 0x4000 ∷ 11 ∷ 0 ∷ 0x4800 ∷ 0x3800 ∷ []) ∷
     -- cut: not aligned on the card; the card address stays
-    row (told_piece (cut_of 63 (cutter (v.At 0x1000) 0x4000 0x4000)))
+    row (told_piece (cut_of 63 (cutter (Some 0x1000) 0x4000 0x4000)))
     (0x1000 ∷ 0x4000 ∷ 14 ∷ 1 ∷ 0x5000 ∷ 0x8000 ∷ 0 ∷ []) (0x1000 ∷ 0x4000 ∷ 12 ∷ 1 ∷ 0x1000 ∷ 0x5000 ∷ 0x3000 ∷ []) ∷
     -- cut of 2^64 - 1 bytes at 0: an exponent of 62; of 64
-    row (told_piece (cut_of 255 (cutter v.Absent 0 (2 ^ 64 - 1)))) (0 ∷ 0 ∷ 62 ∷ 0 ∷ 0x4000000000000000 ∷ 0xbfffffffffffffff ∷ []) (0 ∷ 0 ∷ 64 ∷ 0 ∷ 0 ∷ 0 ∷ []) ∷
+    row (told_piece (cut_of 255 (cutter None 0 (2 ^ 64 - 1)))) (0 ∷ 0 ∷ 62 ∷ 0 ∷ 0x4000000000000000 ∷ 0xbfffffffffffffff ∷ []) (0 ∷ 0 ∷ 64 ∷ 0 ∷ 0 ∷ 0 ∷ []) ∷
     -- cut with nothing left: a page; a block of a byte
-    row (told_piece (cut_of 63 (cutter v.Absent 0x4000 0))) (0 ∷ 0x4000 ∷ 12 ∷ 0 ∷ 0x5000 ∷ 0 ∷ []) (0 ∷ 0x4000 ∷ 0 ∷ 0 ∷ 0x4001 ∷ 0 ∷ []) ∷
+    row (told_piece (cut_of 63 (cutter None 0x4000 0))) (0 ∷ 0x4000 ∷ 12 ∷ 0 ∷ 0x5000 ∷ 0 ∷ []) (0 ∷ 0x4000 ∷ 0 ∷ 0 ∷ 0x4001 ∷ 0 ∷ []) ∷
     -- fill, the answer: both blocks though one is to be listed; what is left is not moved on
-    row (told_by listed_numbers (fill_at 63 1 (cutter v.Absent 0x3000 0x5000) (zeros 4096))) (0 ∷ 2 ∷ 0 ∷ 0x8000 ∷ 0 ∷ []) (0 ∷ 1 ∷ 0 ∷ 0x3000 ∷ 0x5000 ∷ []) ∷
+    row (told_by listed_numbers (fill_at 63 1 (cutter None 0x3000 0x5000) (zeros 4096))) (0 ∷ 2 ∷ 0 ∷ 0x8000 ∷ 0 ∷ []) (0 ∷ 1 ∷ 0 ∷ 0x3000 ∷ 0x5000 ∷ []) ∷
     -- fill of 257 pages: 257 entries; 255
-    row (told_by listed_numbers (fill_at 63 257 (cutter (v.At 0x1000) 0x4000 0x101000) (zeros 4096)))
+    row (told_by listed_numbers (fill_at 63 257 (cutter (Some 0x1000) 0x4000 0x101000) (zeros 4096)))
     (0 ∷ 257 ∷ 1 ∷ 0x102000 ∷ 0x105000 ∷ 0 ∷ []) (0 ∷ 255 ∷ 1 ∷ 0x100000 ∷ 0x103000 ∷ 0x2000 ∷ []) ∷
     -- fill, the entry: the exponent less 11; the exponent
-    row (filled 16 (cutter v.Absent 0x4000 0x4000))
+    row (filled 16 (cutter None 0x4000 0x4000))
     (0 ∷ 0 ∷ 0 ∷ 0 ∷ 0 ∷ 0 ∷ 0 ∷ 0 ∷ 0 ∷ 0 ∷ 0 ∷ 0 ∷ 0 ∷ 0 ∷ 0x40 ∷ 3 ∷ []) (0 ∷ 0 ∷ 0 ∷ 0 ∷ 0 ∷ 0 ∷ 0 ∷ 0 ∷ 0 ∷ 0 ∷ 0 ∷ 0 ∷ 0 ∷ 0 ∷ 0x40 ∷ 14 ∷ []) ∷
     -- fill, the entry: card and host address exchanged; nothing written
-    row (filled 16 (cutter (v.At 0x1000) 0x4000 0x1000))
+    row (filled 16 (cutter (Some 0x1000) 0x4000 0x1000))
     (0 ∷ 0 ∷ 0 ∷ 0 ∷ 0 ∷ 0 ∷ 0x40 ∷ 0 ∷ 0 ∷ 0 ∷ 0 ∷ 0 ∷ 0 ∷ 0 ∷ 0x10 ∷ 0 ∷ [])
     (255 ∷ 255 ∷ 255 ∷ 255 ∷ 255 ∷ 255 ∷ 255 ∷ 255 ∷ 255 ∷ 255 ∷ 255 ∷ 255 ∷ 255 ∷ 255 ∷ 255 ∷ 255 ∷ []) ∷
     -- fill, the byte behind the last entry: it keeps what it held; an entry of the bytes that are not left
-    row (get_or (filled_at 63 2 (cutter v.Absent 0x4000 0x4000) (replicate 4096 255)) 16 1 ∷ get_or (filled_at 63 2 (cutter v.Absent 0x4000 0x4000) (replicate 4096 255)) 30 1 ∷ [])
+    row (get_or (filled_at 63 2 (cutter None 0x4000 0x4000) (replicate 4096 255)) 16 1 ∷ get_or (filled_at 63 2 (cutter None 0x4000 0x4000) (replicate 4096 255)) 30 1 ∷ [])
     (255 ∷ 255 ∷ []) (0 ∷ 0x80 ∷ []) ∷
     -- fill, refused (4,095 bytes): filled; refused with 20
-    row (told_by listed_numbers (fill_at 63 1 (cutter v.Absent 0x4000 0x4000) (zeros 4095))) (0 ∷ 1 ∷ 0 ∷ 0x8000 ∷ 0 ∷ []) (20 ∷ []) ∷
+    row (told_by listed_numbers (fill_at 63 1 (cutter None 0x4000 0x4000) (zeros 4095))) (0 ∷ 1 ∷ 0 ∷ 0x8000 ∷ 0 ∷ []) (20 ∷ []) ∷
     -- fill, refused, the slice then: zeroed; the low bytes of the entry written
-    row (filled_at 63 1 (cutter v.Absent 0x4000 0x4000) (7 ∷ 8 ∷ [])) (0 ∷ 0 ∷ []) (0x40 ∷ 2 ∷ []) ∷
+    row (filled_at 63 1 (cutter None 0x4000 0x4000) (7 ∷ 8 ∷ [])) (0 ∷ 0 ∷ []) (0x40 ∷ 2 ∷ []) ∷
     -- page k of a range: k bytes behind device page k; card and device page exchanged
     row ((pair_at 0x1000 0x4000 1).0 ∷ (pair_at 0x1000 0x4000 1).1 ∷ []) (0x2000 ∷ 0x5001 ∷ []) (0x5000 ∷ 0x2000 ∷ []) ∷
     []
@@ -408,9 +405,9 @@ addresses =
     []
 
 -- a choice under way, a pick, and what an answer leads to, as numbers
-abbrev pub range_numbers : std.Option BarRange → List ℕ
-range_numbers (std.Some r) = 1 ∷ r.base ∷ r.length ∷ []
-range_numbers std.None = 0 ∷ []
+abbrev pub range_numbers : Option BarRange → List ℕ
+range_numbers (Some r) = 1 ∷ r.base ∷ r.length ∷ []
+range_numbers None = 0 ∷ []
 
 abbrev pub asking_numbers : Asking → List ℕ
 asking_numbers k.First = 1 ∷ []
@@ -423,9 +420,9 @@ candidate_numbers c = c.index ∷ range_numbers c.answer
 abbrev pub choice_numbers : Choice → List ℕ
 choice_numbers c = c.base ∷ (candidate_numbers c.first ++ candidate_numbers c.second ++ asking_numbers c.asking)
 
-abbrev pub size_numbers : std.Option ℕ → List ℕ
-size_numbers (std.Some bytes) = 1 ∷ bytes ∷ []
-size_numbers std.None = 0 ∷ []
+abbrev pub size_numbers : Option ℕ → List ℕ
+size_numbers (Some bytes) = 1 ∷ bytes ∷ []
+size_numbers None = 0 ∷ []
 
 abbrev pub how_number : How → ℕ
 how_number h.BaseMatches = 1
@@ -442,19 +439,19 @@ abbrev pub start_numbers : ℕ × Choice → List ℕ
 start_numbers p = p.0 ∷ choice_numbers p.1
 
 -- candidates 2 and 1 of a base, with what was said of them
-abbrev choice : ℕ → std.Option BarRange → std.Option BarRange → Asking → Choice
+abbrev choice : ℕ → Option BarRange → Option BarRange → Asking → Choice
 choice base x y q = record { base = base; first = record { index = 2; answer = x }; second = record { index = 1; answer = y }; asking = q }
 
 -- the base that is looked for, and another
-abbrev hit : std.Option BarRange
-hit = std.Some (record { base = 0xe0000000; length = 0x800000 })
+abbrev hit : Option BarRange
+hit = Some (record { base = 0xe0000000; length = 0x800000 })
 
-abbrev miss : std.Option BarRange
-miss = std.Some (record { base = 0xd0000000; length = 0x1000 })
+abbrev miss : Option BarRange
+miss = Some (record { base = 0xd0000000; length = 0x1000 })
 
 -- index 0 has the base
-abbrev at_zero : ℕ → std.Option BarRange
-at_zero i = pick (eqb i 0) hit std.None
+abbrev at_zero : ℕ → Option BarRange
+at_zero i = pick (eqb i 0) hit None
 
 abbrev pub chosen_numbers : ℕ × How → List ℕ
 chosen_numbers p = p.0 ∷ how_number p.1 ∷ []
@@ -467,33 +464,33 @@ choices =
     -- choose of register 6, refused: begun with index 0; refused with 20
     row (told_by start_numbers (choose_at dwords 6)) (0 ∷ 0 ∷ 0 ∷ 0 ∷ 0 ∷ 0 ∷ 0 ∷ 1 ∷ []) (20 ∷ []) ∷
     -- step, the first candidate answers: its answer is lost; the second is not asked
-    row (told_next (step_of (choice 0xe0000000 std.None std.None k.First) miss)) (1 ∷ 1 ∷ 0xe0000000 ∷ 2 ∷ 0 ∷ 1 ∷ 0 ∷ 2 ∷ []) (2 ∷ 2 ∷ 1 ∷ 0x1000 ∷ 3 ∷ []) ∷
+    row (told_next (step_of (choice 0xe0000000 None None k.First) miss)) (1 ∷ 1 ∷ 0xe0000000 ∷ 2 ∷ 0 ∷ 1 ∷ 0 ∷ 2 ∷ []) (2 ∷ 2 ∷ 1 ∷ 0x1000 ∷ 3 ∷ []) ∷
     -- step, the first matches: picked before the second is asked; the second asked as the first
-    row (told_next (step_of (choice 0xe0000000 std.None std.None k.First) hit))
+    row (told_next (step_of (choice 0xe0000000 None None k.First) hit))
     (2 ∷ 2 ∷ 1 ∷ 0x800000 ∷ 1 ∷ []) (1 ∷ 1 ∷ 0xe0000000 ∷ 2 ∷ 1 ∷ 0xe0000000 ∷ 0x800000 ∷ 1 ∷ 0 ∷ 1 ∷ []) ∷
     -- step, the second matches: the first is picked; the scan begins
-    row (told_next (step_of (choice 0xe0000000 miss std.None k.Second) hit))
+    row (told_next (step_of (choice 0xe0000000 miss None k.Second) hit))
     (2 ∷ 2 ∷ 1 ∷ 0x1000 ∷ 1 ∷ []) (1 ∷ 0 ∷ 0xe0000000 ∷ 2 ∷ 1 ∷ 0xd0000000 ∷ 0x1000 ∷ 1 ∷ 1 ∷ 0xe0000000 ∷ 0x800000 ∷ 3 ∷ 0 ∷ []) ∷
     -- step, both match: the second is picked; told as a scan
-    row (told_next (step_of (choice 0xe0000000 hit std.None k.Second) hit)) (2 ∷ 1 ∷ 1 ∷ 0x800000 ∷ 1 ∷ []) (2 ∷ 2 ∷ 1 ∷ 0x800000 ∷ 2 ∷ []) ∷
+    row (told_next (step_of (choice 0xe0000000 hit None k.Second) hit)) (2 ∷ 1 ∷ 1 ∷ 0x800000 ∷ 1 ∷ []) (2 ∷ 2 ∷ 1 ∷ 0x800000 ∷ 2 ∷ []) ∷
     -- step, none matches: settled without a scan; the scan begins at 3
-    row (told_next (step_of (choice 0xe0000000 miss std.None k.Second) std.None))
+    row (told_next (step_of (choice 0xe0000000 miss None k.Second) None))
     (2 ∷ 2 ∷ 1 ∷ 0x1000 ∷ 3 ∷ []) (1 ∷ 3 ∷ 0xe0000000 ∷ 2 ∷ 1 ∷ 0xd0000000 ∷ 0x1000 ∷ 1 ∷ 0 ∷ 3 ∷ 3 ∷ []) ∷
     -- step, the scan behind index 0: the second candidate again; the first again
-    row (told_next (step_of (choice 0xe0000000 std.None std.None (k.Other 0)) std.None))
+    row (told_next (step_of (choice 0xe0000000 None None (k.Other 0)) None))
     (1 ∷ 1 ∷ 0xe0000000 ∷ 2 ∷ 0 ∷ 1 ∷ 0 ∷ 3 ∷ 1 ∷ []) (1 ∷ 2 ∷ 0xe0000000 ∷ 2 ∷ 0 ∷ 1 ∷ 0 ∷ 3 ∷ 2 ∷ []) ∷
     -- step, another index matches: told as a candidate; the scan goes on
-    row (told_next (step_of (choice 0xe0000000 std.None std.None (k.Other 0)) hit)) (2 ∷ 0 ∷ 1 ∷ 0x800000 ∷ 1 ∷ []) (1 ∷ 3 ∷ 0xe0000000 ∷ 2 ∷ 0 ∷ 1 ∷ 0 ∷ 3 ∷ 3 ∷ []) ∷
+    row (told_next (step_of (choice 0xe0000000 None None (k.Other 0)) hit)) (2 ∷ 0 ∷ 1 ∷ 0x800000 ∷ 1 ∷ []) (1 ∷ 3 ∷ 0xe0000000 ∷ 2 ∷ 0 ∷ 1 ∷ 0 ∷ 3 ∷ 3 ∷ []) ∷
     -- step, the scan behind index 4: index 5 is left out; index 6 is asked
-    row (told_next (step_of (choice 0xe0000000 std.None std.None (k.Other 4)) std.None)) (2 ∷ 2 ∷ 0 ∷ 5 ∷ []) (1 ∷ 6 ∷ 0xe0000000 ∷ 2 ∷ 0 ∷ 1 ∷ 0 ∷ 3 ∷ 6 ∷ []) ∷
+    row (told_next (step_of (choice 0xe0000000 None None (k.Other 4)) None)) (2 ∷ 2 ∷ 0 ∷ 5 ∷ []) (1 ∷ 6 ∷ 0xe0000000 ∷ 2 ∷ 0 ∷ 1 ∷ 0 ∷ 3 ∷ 6 ∷ []) ∷
     -- step, the scan behind index 5: index 6 is asked; index 5 is picked
-    row (told_next (step_of (choice 0xe0000000 std.None std.None (k.Other 5)) std.None)) (1 ∷ 6 ∷ 0xe0000000 ∷ 2 ∷ 0 ∷ 1 ∷ 0 ∷ 3 ∷ 6 ∷ []) (2 ∷ 5 ∷ 0 ∷ 5 ∷ []) ∷
+    row (told_next (step_of (choice 0xe0000000 None None (k.Other 5)) None)) (1 ∷ 6 ∷ 0xe0000000 ∷ 2 ∷ 0 ∷ 1 ∷ 0 ∷ 3 ∷ 6 ∷ []) (2 ∷ 5 ∷ 0 ∷ 5 ∷ []) ∷
     -- step, only the second answered: the first is picked as the only answer; as no answer
-    row (told_next (step_of (choice 0xe0000000 std.None miss (k.Other 5)) std.None)) (2 ∷ 2 ∷ 0 ∷ 3 ∷ []) (2 ∷ 2 ∷ 0 ∷ 5 ∷ []) ∷
+    row (told_next (step_of (choice 0xe0000000 None miss (k.Other 5)) None)) (2 ∷ 2 ∷ 0 ∷ 3 ∷ []) (2 ∷ 2 ∷ 0 ∷ 5 ∷ []) ∷
     -- step, both answered and none matches: the second is picked; told as the only answer
-    row (told_next (step_of (choice 0xe0000000 miss miss (k.Other 5)) std.None)) (2 ∷ 1 ∷ 1 ∷ 0x1000 ∷ 4 ∷ []) (2 ∷ 2 ∷ 1 ∷ 0x1000 ∷ 3 ∷ []) ∷
+    row (told_next (step_of (choice 0xe0000000 miss miss (k.Other 5)) None)) (2 ∷ 1 ∷ 1 ∷ 0x1000 ∷ 4 ∷ []) (2 ∷ 2 ∷ 1 ∷ 0x1000 ∷ 3 ∷ []) ∷
     -- step, a base of 0: it is matched; the scan begins
-    row (told_next (step_of (choice 0 (std.Some (record { base = 0; length = 0x1000 })) std.None k.Second) std.None)) (2 ∷ 2 ∷ 1 ∷ 0x1000 ∷ 1 ∷ []) (1 ∷ 0 ∷ 0 ∷ 2 ∷ 1 ∷ 0 ∷ 0x1000 ∷ 1 ∷ 0 ∷ 3 ∷ 0 ∷ []) ∷
+    row (told_next (step_of (choice 0 (Some (record { base = 0; length = 0x1000 })) None k.Second) None)) (2 ∷ 2 ∷ 1 ∷ 0x1000 ∷ 1 ∷ []) (1 ∷ 0 ∷ 0 ∷ 2 ∷ 1 ∷ 0 ∷ 0x1000 ∷ 1 ∷ 0 ∷ 3 ∷ 0 ∷ []) ∷
     -- the indices asked where index 0 matches: asked on after the match; the others first
     row (choose.asked 0xe0000000 2 1 at_zero) (2 ∷ 1 ∷ 0 ∷ 3 ∷ 4 ∷ 5 ∷ []) (0 ∷ 2 ∷ 1 ∷ []) ∷
     -- the index picked then, and how: told as a candidate; the first candidate

@@ -1,5 +1,5 @@
 -- WRONG ANSWERS of functions on a session's parts, as in `wrong/specs/Wrong.antt`.
-use Rattle.std.specs.Prelude.{ℕ, ◌+◌, ◌-◌, ◌^◌, Bool, true, false, List, [], ◌∷◌, ◌++◌, length, replicate, set, drop, Ok, Err}
+use Rattle.std.specs.Prelude.{ℕ, ◌+◌, ◌-◌, ◌^◌, Bool, true, false, List, [], ◌∷◌, ◌++◌, length, replicate, set, drop, Ok, Err, None}
 use Rattle.fields.specs.Outcome.{Outcome, value, refused}
 use Rattle.wrong.specs.Wrong.{Row, row, told, yes}
 use Rattle.words.specs.Words.{at}
@@ -11,7 +11,6 @@ use Rattle.bars.specs.declared.Pick.{Pick}
 use Rattle.dma.specs.declared.Buffer.{Buffer}
 use Rattle.dma.specs.declared.Cutter.{Cutter}
 use Rattle.dma.specs.declared.Listed.{Listed}
-use Rattle.dma.specs.declared.Virt.TheVariants as virt
 use Rattle.reply.specs.Replies.{port_of}
 use Rattle.reply.specs.declared.DevCap.{DevCap}
 use Rattle.reply.specs.declared.FwInfo.{FwInfo}
@@ -372,7 +371,7 @@ abbrev inboxed : Session
 inboxed = bookkeeps fresh (puts INBOX (whole 0 buffer) no_books)
 
 abbrev pub rest : (bytes : ℕ) → Cutter
-rest n = record { virt = virt.Absent; phys = 0x5000; left = n }
+rest n = record { virt = None; phys = 0x5000; left = n }
 
 abbrev pub mapping : Session
 mapping = starts (having boxed) (g.Boot (b.Map a.Fa (rest 16384))) t.Rest
@@ -386,7 +385,7 @@ third_made = puts 66 (whole 0x30000 other) before
 
 -- a page list of three entries, with a page left behind it
 abbrev three : Listed
-three = record { entries = 3; rest = record { virt = virt.Absent; phys = 0x8000; left = 4096 } }
+three = record { entries = 3; rest = record { virt = None; phys = 0x8000; left = 4096 } }
 
 -- buffers and commands
 abbrev pub commands : List Row

@@ -21,7 +21,6 @@ use Rattle.results.specs.Books.{area_words, areas_words, ranges_of, lent_of, boo
 use Rattle.bars.specs.declared.BarRange.{BarRange}
 use Rattle.bars.specs.declared.Candidate.{Candidate}
 use Rattle.bars.specs.declared.Asking.TheVariants as ba
-use Rattle.dma.specs.declared.Virt.TheVariants as lv
 use Rattle.hcr.specs.declared.Post.{Post}
 use Rattle.reply.specs.declared.PortInfo.{PortInfo}
 use Rattle.pci.specs.declared.Question.TheVariants as q
@@ -230,7 +229,7 @@ stages =
     -- of an undo down to a mark: the mark is not kept; mark and count change places
     row (take 4 (stage_words (st.Client (ci.UndoTo 5 6)))) (5 ∷ 2 ∷ 6 ∷ 6 ∷ []) (5 ∷ 2 ∷ 6 ∷ 5 ∷ []) ∷
     -- of a range that is mapped: the host address of what is left to cut is not kept; the card address is lost
-    row (stage_words (st.Boot (bo.Map (ar.Range 3) (record { virt = lv.At 9; phys = 10; left = 11 })))) (4 ∷ 2 ∷ 2 ∷ 3 ∷ 0 ∷ 9 ∷ 11 ∷ 11 ∷ []) (4 ∷ 2 ∷ 2 ∷ 3 ∷ 1 ∷ 0 ∷ 10 ∷ 11 ∷ []) ∷
+    row (stage_words (st.Boot (bo.Map (ar.Range 3) (record { virt = Some 9; phys = 10; left = 11 })))) (4 ∷ 2 ∷ 2 ∷ 3 ∷ 0 ∷ 9 ∷ 11 ∷ 11 ∷ []) (4 ∷ 2 ∷ 2 ∷ 3 ∷ 1 ∷ 0 ∷ 10 ∷ 11 ∷ []) ∷
     -- of the outbox, and of the first look: they change places; the inbox for the outbox
     row (stage (st.Prepare pr.Outbox) ++ stage (st.Prepare pr.Look)) (3 ∷ 6 ∷ 0 ∷ 3 ∷ 5 ∷ 0 ∷ []) (3 ∷ 4 ∷ 0 ∷ 3 ∷ 6 ∷ 0 ∷ []) ∷
     -- of QUERY_PORT, and of INIT_HCA: the port is lost; RUN_FW for INIT_HCA

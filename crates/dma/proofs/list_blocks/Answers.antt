@@ -1,8 +1,9 @@
-use Rattle.std.proofs.Common.{◌≡◌, ℕ, ◌+◌, ◌-◌, ◌^◌, ◌<◌, List, length, sym, ap, ◌∙◌, rules, arith}
+use Rattle.std.proofs.Common.{◌≡◌, ℕ, ◌+◌, ◌-◌, ◌^◌, ◌<◌, List, length, sym, ap, subst, ◌∙◌, rules, arith}
 use Rattle.dma.specs.Blocks.{block_of}
-use Rattle.dma.specs.PageList.{list_at, entry_at, first_blocks, behind}
+use Rattle.dma.specs.PageList.{list_at, entry_at, first_blocks, behind, listed_of}
 use Rattle.dma.specs.declared.Block.{Block}
 use Rattle.dma.specs.declared.Cutter.{Cutter}
+use Rattle.dma.specs.declared.Listed.{Listed}
 use Rattle.dma.proofs.Lists.{first_none, behind_none, first-turn, behind-turn, list-turn, ended, word_fits, cut_none, cut_some}
 use Rattle.dma.proofs.list_blocks.Goals as goal
 
@@ -46,4 +47,5 @@ returns c = let a = c.args in let l = c.loop-n in
     let z : a.capacity - l.n ≡ 0 = omega arith in
     let parts = ended a.largest a.capacity l.n a.c l.rest l.inbox a.inbox.now
     (ap (λ (k : ℕ). first_blocks a.largest k l.rest) z) (ap (λ (k : ℕ). behind a.largest k l.rest) z) l.invariant.listed l.invariant.counted l.invariant.left in
-    record { value = ap (λ (k : ℕ). record { entries = k; rest = l.rest }) full ∙ parts.0; inbox_after = parts.1 }
+    let Lists : ℕ → Type 0 = λ k. ◌≡◌ {A = Listed} (record { entries = k; rest = l.rest }) (listed_of a.largest a.capacity a.c) in
+    record { value = subst Lists (sym full) parts.0; inbox_after = parts.1 }

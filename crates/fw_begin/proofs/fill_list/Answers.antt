@@ -19,16 +19,16 @@ lists-requires c = search rules
 pub enum_told-1 : goal.enum_told-1
 enum_told-1 c = search rules
 
-pub shape_of-inbox-in-Filled : goal.shape_of-inbox-in-Filled
-shape_of-inbox-in-Filled c = search rules
+pub shape_of-inbox-in-Ok : goal.shape_of-inbox-in-Ok
+shape_of-inbox-in-Ok c = search rules
 
-pub returns-in-Filled : goal.returns-in-Filled
-returns-in-Filled c =
-    let p = c.args in record { with_slots = λ b e. c.lists.ensures b e ∙ listed_good (eqb (length p.inbox.now) 4096) (listed_of 63 256 p.c) _ (full p.s b) (ap page_list (sym c.in-Filled.is) ∙ c.fill.ensures.result_value); inbox_after = c.fill.ensures.inbox_after }
+pub returns-in-Ok : goal.returns-in-Ok
+returns-in-Ok c =
+    let p = c.args in record { with_slots = λ b e. c.lists.ensures b e ∙ listed_good (eqb (length p.inbox.now) 4096) (listed_of 63 256 p.c) _ (full p.s b) (ap page_list (sym c.in-Ok.is) ∙ c.fill.ensures.result_value); inbox_after = c.fill.ensures.inbox_after }
 
-pub shape_of-inbox-in-Short : goal.shape_of-inbox-in-Short
-shape_of-inbox-in-Short c = search rules
+pub shape_of-inbox-in-Err : goal.shape_of-inbox-in-Err
+shape_of-inbox-in-Err c = search rules
 
-pub returns-in-Short : goal.returns-in-Short
-returns-in-Short c =
-    let p = c.args in record { with_slots = λ b e. listed_short (eqb (length p.inbox.now) 4096) (listed_of 63 256 p.c) (full p.s b) (ap page_list (sym c.in-Short.is) ∙ c.fill.ensures.result_value); inbox_after = c.fill.ensures.inbox_after }
+pub returns-in-Err : goal.returns-in-Err
+returns-in-Err c =
+    let p = c.args in record { with_slots = λ b e. listed_short (eqb (length p.inbox.now) 4096) (listed_of 63 256 p.c) (full p.s b) (ap page_list (sym c.in-Err.is) ∙ c.fill.ensures.result_value); inbox_after = c.fill.ensures.inbox_after }

@@ -1,5 +1,0 @@
-use borrow.Author.Rules.{rules}
-use Rattle.words_stage.proofs.cutter_words.Goals as goal
-
-pub returns : goal.returns
-returns c = simp c.virt_words-virt_w.ensures

@@ -1,8 +1,0 @@
-use borrow.Author.Tests.{ne_eqb}
-use Rattle.words_stage.proofs.virt_from.Goals as goal
-
-pub returns-in-1 : goal.returns-in-1
-returns-in-1 c = simp c.in-1.is
-
-pub returns-in_default : goal.returns-in_default
-returns-in_default c = simp (ne_eqb _ _ c.in_default.in_default-own.rest.1)
