@@ -13,6 +13,7 @@ ghost use Rattle.fw_begin.specs.Begins as b;
 use dma::Listed;
 use fw_plan::Lent;
 use init::InitHca;
+use layout::Layout;
 use pci::{Answer, Question};
 use session::{Core, Fill, Plan, Top};
 
@@ -28,8 +29,7 @@ fn init_fields(m: &[u8]) -> InitHca
     ensures { (c : Core) → result ≡ f.init_in (full c (behind_in m.now)).info }
 {
     let cap = behind::cap_at(m);
-    let laid = layout::profile(cap);
-    let layout = laid.layout;
+    let layout = layout::profile(cap).unwrap_or(Layout::none());
     let rows = layout.rows;
     init::init_hca(cap, rows)
 }

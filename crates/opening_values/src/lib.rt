@@ -16,7 +16,7 @@ use bars::Pick;
 use command::{Catas, CmdResult};
 use dma::{Cutter, Listed};
 use hcr::{Hcr, Op};
-use layout::Range;
+use layout::{Layout, Range};
 use pci::Refusal;
 use reply::{DevCap, FuncInfo, FwInfo};
 use session::{Area, Boot, Core, Failure, Fill, Plan, Slot, Stage, Top, Wire};
@@ -168,8 +168,7 @@ fn range_in(ranges: [Range; 14], i: usize) -> Range
 pub fn range_at(i: usize, m: &[u8]) -> Range
     ensures { result ≡ v.range_in (value_or no_layout (profile_of (behind_in m.now).cap)).ranges i }
 {
-    let laid = layout::profile(behind::cap_at(m));
-    let layout = laid.layout;
+    let layout = layout::profile(behind::cap_at(m)).unwrap_or(Layout::none());
     let ranges = layout.ranges;
     range_in(ranges, i)
 }

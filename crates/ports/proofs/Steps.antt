@@ -3,13 +3,14 @@ use Prim.Native.Nat.{ℕ, ◌+◌}
 use mathlib.Core.Bool.{Bool, true, false}
 use mathlib.Core.Path.{◌≡◌, ap, sym}
 use lib.Dec.{ltb}
+use Rattle.std.specs.Prelude.{Result, Ok, Err}
 use Rattle.fields.specs.Outcome.{pick}
 use Rattle.pci.specs.declared.Refusal.TheVariants as x
-use Rattle.layout.specs.Layout.{laid, fit_by}
+use Rattle.layout.specs.Layout.{laid}
 use Rattle.layout.specs.Counts.{profile_of}
-use Rattle.layout.specs.declared.Fit.{Fit}
-use Rattle.layout.specs.declared.Fit.TheVariants as f
-use Rattle.layout.specs.declared.Laid.{Laid}
+use Rattle.layout.specs.declared.Layout.{Layout}
+use Rattle.layout.specs.declared.Misfit.{Misfit}
+use Rattle.layout.specs.declared.Misfit.TheVariants as f
 use Rattle.session.specs.declared.Boot.TheVariants as k
 use Rattle.session.specs.declared.Session.{Session}
 use Rattle.session.specs.declared.Top.{Top}
@@ -25,14 +26,14 @@ module _ (s : Session) (top : Top) where
   unfolding port_plan
   port_last n h = sym (ap (λ (z : Bool). pick z (ask_plan s (k.Port (n + 1)) 0x043 (n + 1) top) (layout_plan s (profile_of s.info.cap) top)) h)
 
-  pub laid_good : (y : Laid) → y.fit ≡ f.Accepted → imm_plan s k.IcmSize 0xffd y.layout.total top ≡ layout_plan s (laid y) top
+  pub laid_good : (y : Result Layout Misfit) (l : Layout) → y ≡ Ok l → imm_plan s k.IcmSize 0xffd l.total top ≡ layout_plan s (laid y) top
   unfolding layout_plan
-  laid_good y h = sym (ap (λ (z : Fit). layout_plan s (fit_by z y.layout) top) h)
+  laid_good y l h = sym (ap (λ (z : Result Layout Misfit). layout_plan s (laid z) top) h)
 
-  pub laid_entry : (y : Laid) (i : ℕ) → y.fit ≡ f.Entry i → fail_plan s (x.Entry i) top ≡ layout_plan s (laid y) top
+  pub laid_entry : (y : Result Layout Misfit) (i : ℕ) → y ≡ Err (f.Entry i) → fail_plan s (x.Entry i) top ≡ layout_plan s (laid y) top
   unfolding layout_plan
-  laid_entry y i h = sym (ap (λ (z : Fit). layout_plan s (fit_by z y.layout) top) h)
+  laid_entry y i h = sym (ap (λ (z : Result Layout Misfit). layout_plan s (laid z) top) h)
 
-  pub laid_total : (y : Laid) (n : ℕ) → y.fit ≡ f.Total n → fail_plan s (x.Total n) top ≡ layout_plan s (laid y) top
+  pub laid_total : (y : Result Layout Misfit) (n : ℕ) → y ≡ Err (f.Total n) → fail_plan s (x.Total n) top ≡ layout_plan s (laid y) top
   unfolding layout_plan
-  laid_total y n h = sym (ap (λ (z : Fit). layout_plan s (fit_by z y.layout) top) h)
+  laid_total y n h = sym (ap (λ (z : Result Layout Misfit). layout_plan s (laid z) top) h)

@@ -12,21 +12,19 @@ ghost use Rattle.opening_plan.specs.Plan as p;
 ghost use Rattle.ports.specs.Replied.{CapPlan, PortPlan};
 
 use hcr::Op;
-use layout::{Fit, Laid};
+use layout::{Layout, Misfit};
 use pci::Refusal;
 use reply::{CapCheck, Capability, PortReply};
 use session::{Boot, Core, Plan, Top};
 
 // The layout, accepted or refused.
-fn lay_out(s: Core, y: Laid, top: Top, m: &[u8]) -> Plan
+fn lay_out(s: Core, y: Result<Layout, Misfit>, top: Top, m: &[u8]) -> Plan
     ensures { plan_in result (behind_in m.now) ≡ p.layout_plan (full s (behind_in m.now)) (laid y) top }
 {
-    let fit = y.fit;
-    let layout = y.layout;
-    match fit {
-        Fit::Accepted => opening_values::imm(s, Boot::IcmSize, Op::SET_ICM_SIZE, layout.total, top),
-        Fit::Entry(i) => opening_values::fail(s, Refusal::Entry(i), top, m),
-        Fit::Total(n) => opening_values::fail(s, Refusal::Total(n), top, m),
+    match y {
+        Ok(layout) => opening_values::imm(s, Boot::IcmSize, Op::SET_ICM_SIZE, layout.total, top),
+        Err(Misfit::Entry(i)) => opening_values::fail(s, Refusal::Entry(i), top, m),
+        Err(Misfit::Total(n)) => opening_values::fail(s, Refusal::Total(n), top, m),
     }
 }
 

@@ -15,7 +15,7 @@ ghost use Rattle.results.specs.Books.{rows_words, areas_words, head_row, head_wo
 ghost use Rattle.results.specs.Results.{values_of, end_word, refused_words, gave_words, outcome_words, merged, table_words, put_said, put_ports, put_layout, setup_in};
 
 use fw_plan::Outcome;
-use layout::Table;
+use layout::{Layout, Table};
 use pci::Refusal;
 use reply::{DevCap, FuncInfo};
 use session::{Closing, Core, Failure, Gave, Slot, Stage};
@@ -225,8 +225,7 @@ fn put_layout(out: &mut [u8], s: Core, m: &[u8])
     ensures { out.new ≡ put_layout out.old (full s (behind_in m.now)).info }
 {
     let cap = behind::cap_at(m);
-    let laid = layout::profile(cap);
-    let layout = laid.layout;
+    let layout = layout::profile(cap).unwrap_or(Layout::none());
     let rows = layout.rows;
     let w = [
         ports(s.rev3, cap),

@@ -4,6 +4,7 @@ use Rattle.init.specs.Init.{init_of}
 use Rattle.layout.specs.Layout.{no_layout}
 use Rattle.layout.specs.Counts.{profile_of}
 use Rattle.layout.specs.declared.Layout.{Layout}
+use Rattle.layout.proofs.Held.{held}
 use Rattle.reply.specs.declared.DevCap.{DevCap}
 use borrow.Author.Rules.{rules}
 use Rattle.fw_begin.proofs.init_fields.Goals as goal
@@ -11,8 +12,8 @@ use Rattle.fw_begin.proofs.init_fields.Goals as goal
 pub cap_at-cap-requires : goal.cap_at-cap-requires
 cap_at-cap-requires c = search rules
 
-pub profile-laid-requires : goal.profile-laid-requires
-profile-laid-requires c = search rules
+pub profile-requires : goal.profile-requires
+profile-requires c = search rules
 
 pub init_hca-requires : goal.init_hca-requires
 init_hca-requires c = search rules
@@ -20,5 +21,5 @@ init_hca-requires c = search rules
 pub returns : goal.returns
 returns c =
     λ y.
-    c.init_hca.ensures ∙ ap (λ (l : Layout). init_of c.cap_at-cap.result l.rows) c.profile-laid.ensures.held
+    c.init_hca.ensures ∙ ap (λ (l : Layout). init_of c.cap_at-cap.result l.rows) (held c.profile.result c.unwrap_or-layout.ensures c.none.ensures c.profile.ensures)
     ∙ ap (λ (k : DevCap). init_of k (value_or no_layout (profile_of k)).rows) c.cap_at-cap.ensures

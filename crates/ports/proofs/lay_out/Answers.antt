@@ -5,18 +5,18 @@ use Rattle.behind.specs.Behind.{behind_in}
 use Rattle.ports.proofs.Steps.{laid_good, laid_entry, laid_total}
 use Rattle.ports.proofs.lay_out.Goals as goal
 
-pub returns-in-Accepted : goal.returns-in-Accepted
-returns-in-Accepted c =
+pub returns-in-Ok : goal.returns-in-Ok
+returns-in-Ok c =
     let p = c.args in
     let b = behind_in p.m.now in
-    c.imm.ensures b ∙ laid_good (full p.s b) p.top p.y c.in-Accepted.is
+    c.imm.ensures b ∙ laid_good (full p.s b) p.top p.y _ c.in-Ok.is
 
-pub returns-in-Entry : goal.returns-in-Entry
-returns-in-Entry c =
+pub returns-in-Err-Entry : goal.returns-in-Err-Entry
+returns-in-Err-Entry c =
     let p = c.args in
-    c.fail.ensures ∙ laid_entry (full p.s (behind_in p.m.now)) p.top p.y _ c.in-Entry.is
+    c.fail.ensures ∙ laid_entry (full p.s (behind_in p.m.now)) p.top p.y _ c.in-Err-Entry.is
 
-pub returns-in-Total : goal.returns-in-Total
-returns-in-Total c =
+pub returns-in-Err-Total : goal.returns-in-Err-Total
+returns-in-Err-Total c =
     let p = c.args in
-    c.fail-in-Total.ensures ∙ laid_total (full p.s (behind_in p.m.now)) p.top p.y _ c.in-Total.is
+    c.fail-in-Err-Total.ensures ∙ laid_total (full p.s (behind_in p.m.now)) p.top p.y _ c.in-Err-Total.is

@@ -27,5 +27,5 @@ returns c =
     let d = c.cap_at-cap.ensures in
     let e = c.ports.ensures ∙ ap (λ (y : DevCap). pick p.s.rev3 y.ports 0) d in
     c.lay_out.ensures
-    ∙ ap (λ (y : Outcome Layout). layout_plan s y p.top) (c.profile.ensures.said ∙ ap profile_of d)
+    ∙ ap (λ (y : Outcome Layout). layout_plan s y p.top) (c.profile.ensures ∙ ap profile_of d)
     ∙ port_last s p.top p.n (sym (ap (λ (y : ℕ). ltb p.n y) e) ∙ le-ltb _ _ c.if-n-ports.false)
