@@ -1,4 +1,3 @@
 pub mod Laws
 pub mod Lengths
-pub mod Codes
 pub mod Rows

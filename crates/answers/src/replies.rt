@@ -1,12 +1,14 @@
 // The card's replies: document 01's number, the value beside it, then the fields.
 ghost use Rattle.std.specs.Prelude.{◌≡◌};
-ghost use Rattle.fields.specs.Outcome.{pick};
-ghost use Rattle.reply.specs.Capability.{refused_by, no_caps};
-ghost use Rattle.reply.specs.Replies.{fw_by, no_fw, query_func};
+ghost use Rattle.std.specs.Result.{result_unwrap_or};
+ghost use Rattle.fields.specs.Outcome.{number_of};
+ghost use Rattle.reply.specs.Capability.{capability, refused_by, no_caps};
+ghost use Rattle.reply.specs.Replies.{query_fw, fw_in, query_port, no_port, query_func};
 ghost use Rattle.answers.specs.Replies.{size_from, code_of, cap_words, fw_words, port_words, func_words};
 
 use crate::words;
-use reply::{CapCheck, Capability, FuncReply, FwCheck, FwReply, PortReply};
+use fields::Short;
+use reply::{CapRefusal, DevCap, FuncInfo, FwInfo, FwRefusal, PortInfo};
 
 // A refusal's number and the value beside it; 0 where there is none.
 #[derive(Clone, Copy)]
@@ -19,6 +21,12 @@ impl Code {
     pub const GOOD: u64 = 0;
 
     pub const SHORT: u64 = 21;
+
+    // No refusal.
+    const NONE: Code = Code {
+        number: Code::GOOD,
+        beside: 0,
+    };
 }
 
 pub fn size_from(known: bool, bytes: u64) -> Option<u64>
@@ -30,43 +38,47 @@ pub fn size_from(known: bool, bytes: u64) -> Option<u64>
     None
 }
 
-pub fn cap_code(k: CapCheck) -> Code
-    ensures { result ≡ code_of (refused_by k no_caps) }
+pub fn cap_code(k: CapRefusal) -> Code
+    ensures { result ≡ code_of (refused_by k) }
 {
     match k {
-        CapCheck::Good => Code {
-            number: Code::GOOD,
-            beside: 0,
-        },
-        CapCheck::Short => Code {
+        CapRefusal::Short => Code {
             number: Code::SHORT,
             beside: 0,
         },
-        CapCheck::MinPage(e) => Code {
+        CapRefusal::MinPage(e) => Code {
             number: 12,
             beside: e as u64,
         },
-        CapCheck::Ports(n) => Code {
+        CapRefusal::Ports(n) => Code {
             number: 13,
             beside: n as u64,
         },
-        CapCheck::Uar(f) => Code {
+        CapRefusal::Uar(f) => Code {
             number: 14,
             beside: f as u64,
         },
-        CapCheck::UarArea(a) => Code {
+        CapRefusal::UarArea(a) => Code {
             number: 15,
             beside: a,
         },
     }
 }
 
-pub fn cap_words(r: Capability) -> [u64; 34]
-    ensures { result ≡ cap_words (code_of (refused_by r.check no_caps)) r.cap }
+fn cap_told(r: Result<DevCap, CapRefusal>) -> Code
+    ensures { result ≡ code_of (capability r) }
 {
-    let k = r.check;
-    let code = cap_code(k);
-    let c = r.cap;
+    match r {
+        Ok(_) => Code::NONE,
+        Err(k) => cap_code(k),
+    }
+}
+
+pub fn cap_words(r: Result<DevCap, CapRefusal>) -> [u64; 34]
+    ensures { result ≡ cap_words (code_of (capability r)) (result_unwrap_or r no_caps) }
+{
+    let code = cap_told(r);
+    let c = r.unwrap_or(DevCap::none());
     let e = c.entry;
     [
         code.number,
@@ -106,31 +118,54 @@ pub fn cap_words(r: Capability) -> [u64; 34]
     ]
 }
 
-fn fw_code(k: FwCheck) -> Code
-    ensures { result ≡ code_of (fw_by k no_fw) }
+fn fw_code(k: FwRefusal) -> Code
+    ensures { result ≡ code_of (query_fw (Err k)) }
 {
     match k {
-        FwCheck::Good => Code {
-            number: Code::GOOD,
-            beside: 0,
-        },
-        FwCheck::Short => Code {
+        FwRefusal::Short => Code {
             number: Code::SHORT,
             beside: 0,
         },
-        FwCheck::Revision(r) => Code {
+        FwRefusal::Revision(i) => Code {
             number: 11,
-            beside: r as u64,
+            beside: i.rev as u64,
         },
     }
 }
 
-pub fn fw_words(r: FwReply) -> [u64; 12]
-    ensures { result ≡ fw_words (code_of (fw_by r.check no_fw)) r.info }
+fn fw_told(r: Result<FwInfo, FwRefusal>) -> Code
+    ensures { result ≡ code_of (query_fw r) }
 {
-    let k = r.check;
-    let code = fw_code(k);
-    let i = r.info;
+    match r {
+        Ok(_) => Code::NONE,
+        Err(k) => fw_code(k),
+    }
+}
+
+// The fields, also where the revision is refused.
+fn fw_beside(k: FwRefusal) -> FwInfo
+    ensures { result ≡ fw_in (Err k) }
+{
+    match k {
+        FwRefusal::Short => FwInfo::none(),
+        FwRefusal::Revision(i) => i,
+    }
+}
+
+fn fw_known(r: Result<FwInfo, FwRefusal>) -> FwInfo
+    ensures { result ≡ fw_in r }
+{
+    match r {
+        Ok(i) => i,
+        Err(k) => fw_beside(k),
+    }
+}
+
+pub fn fw_words(r: Result<FwInfo, FwRefusal>) -> [u64; 12]
+    ensures { result ≡ fw_words (code_of (query_fw r)) (fw_in r) }
+{
+    let code = fw_told(r);
+    let i = fw_known(r);
     [
         code.number,
         code.beside,
@@ -147,19 +182,19 @@ pub fn fw_words(r: FwReply) -> [u64; 12]
     ]
 }
 
-fn short_number(short: bool) -> u64
-    ensures { result ≡ pick short 21 0 }
+fn port_number(r: Result<PortInfo, Short>) -> u64
+    ensures { result ≡ number_of (query_port r) }
 {
-    if short { Code::SHORT } else { Code::GOOD }
+    if r.is_ok() { Code::GOOD } else { Code::SHORT }
 }
 
-pub fn port_words(r: PortReply) -> [u64; 18]
-    ensures { result ≡ port_words (pick r.short 21 0) r.info }
+pub fn port_words(r: Result<PortInfo, Short>) -> [u64; 18]
+    ensures { result ≡ port_words (number_of (query_port r)) (result_unwrap_or r no_port) }
 {
-    let i = r.info;
+    let i = r.unwrap_or(PortInfo::none());
     let m = i.mac;
     [
-        short_number(r.short),
+        port_number(r),
         words::wide8(i.num),
         words::bit_of(i.link_up),
         words::wide8(i.b0),
@@ -180,11 +215,11 @@ pub fn port_words(r: PortReply) -> [u64; 18]
     ]
 }
 
-pub fn func_words(r: FuncReply) -> [u64; 4]
+pub fn func_words(r: Result<FuncInfo, Short>) -> [u64; 4]
     ensures { result ≡ func_words (query_func r) }
 {
     match r {
-        FuncReply::Good(i) => [0, i.rsvd_eqs as u64, i.max_eqs as u64, i.rsvd_uars as u64],
-        FuncReply::Short => [21, 0, 0, 0],
+        Ok(i) => [0, i.rsvd_eqs as u64, i.max_eqs as u64, i.rsvd_uars as u64],
+        Err(Short) => [21, 0, 0, 0],
     }
 }

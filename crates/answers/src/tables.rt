@@ -10,7 +10,7 @@ ghost use Rattle.answers.specs.Tables.{row_words, rows_words, ranges_words, layo
 use crate::replies::Code;
 use crate::{replies, words};
 use layout::{Layout, Misfit, Range, Table};
-use reply::Capability;
+use reply::{CapRefusal, DevCap};
 
 fn row_words(t: Table) -> [u64; 5]
     ensures { result ≡ row_words t }
@@ -91,16 +91,14 @@ fn judge_laid(y: Result<Layout, Misfit>) -> Judged
 }
 
 // The layout of an accepted capability reply; else the refusal.
-pub fn judge(c: Capability) -> Judged
+pub fn judge(c: Result<DevCap, CapRefusal>) -> Judged
     ensures { result ≡ judged_of (code_of (layout_for (capability c))) (value_or no_layout (layout_for (capability c))) }
 {
-    let k = c.check;
-    let code = replies::cap_code(k);
-    if code.number != Code::GOOD {
-        return Judged {
-            code,
+    match c {
+        Ok(cap) => judge_laid(layout::profile(cap)),
+        Err(k) => Judged {
+            code: replies::cap_code(k),
             layout: Layout::none(),
-        };
+        },
     }
-    judge_laid(layout::profile(c.cap))
 }

@@ -3,7 +3,7 @@
 
 ghost use Rattle.std.specs.Prelude.{◌≡◌};
 ghost use Rattle.fields.specs.Outcome.{pick};
-ghost use Rattle.reply.specs.Capability.{capability};
+ghost use Rattle.reply.specs.Capability.{capability, refused_by};
 ghost use Rattle.reply.specs.Replies.{query_port};
 ghost use Rattle.layout.specs.Layout.{laid};
 ghost use Rattle.session.specs.Core.{full, plan_in};
@@ -11,10 +11,11 @@ ghost use Rattle.behind.specs.Behind.{behind_in};
 ghost use Rattle.opening_plan.specs.Plan as p;
 ghost use Rattle.ports.specs.Replied.{CapPlan, PortPlan};
 
+use fields::Short;
 use hcr::Op;
 use layout::{Layout, Misfit};
 use pci::Refusal;
-use reply::{CapCheck, Capability, PortReply};
+use reply::{CapRefusal, DevCap, PortInfo};
 use session::{Boot, Core, Plan, Top};
 
 // The layout, accepted or refused.
@@ -32,10 +33,7 @@ fn lay_out(s: Core, y: Result<Layout, Misfit>, top: Top, m: &[u8]) -> Plan
 fn ports(rev3: bool, ports: u8) -> u8
     ensures { result ≡ pick rev3 ports 0 }
 {
-    if rev3 {
-        return ports;
-    }
-    0
+    if rev3 { ports } else { 0 }
 }
 
 // The port after port n, or the layout.
@@ -49,27 +47,34 @@ fn next_port(s: Core, n: u8, top: Top, m: &[u8]) -> Plan
     lay_out(s, layout::profile(cap), top, m)
 }
 
-// The reply to QUERY_DEV_CAP, and one to QUERY_PORT.
-pub fn cap_replied(s: Core, y: Capability, top: Top, m: &[u8]) -> Plan
-    ensures { CapPlan result s (capability y) top (behind_in m.now) }
+// A reply to QUERY_DEV_CAP that is refused.
+fn cap_refused(s: Core, why: CapRefusal, top: Top, m: &[u8]) -> Plan
+    ensures { CapPlan result s (refused_by why) top (behind_in m.now) }
 {
-    let check = y.check;
-    let cap = y.cap;
-    match check {
-        CapCheck::Good => next_port(opening_values::with_cap(s, cap), 0, top, m),
-        CapCheck::Short => opening_values::fail(s, Refusal::Short, top, m),
-        CapCheck::MinPage(n) => opening_values::fail(s, Refusal::MinPage(n), top, m),
-        CapCheck::Ports(n) => opening_values::fail(s, Refusal::Ports(n), top, m),
-        CapCheck::Uar(n) => opening_values::fail(s, Refusal::Uar(n), top, m),
-        CapCheck::UarArea(n) => opening_values::fail(s, Refusal::UarArea(n), top, m),
+    match why {
+        CapRefusal::Short => opening_values::fail(s, Refusal::Short, top, m),
+        CapRefusal::MinPage(n) => opening_values::fail(s, Refusal::MinPage(n), top, m),
+        CapRefusal::Ports(n) => opening_values::fail(s, Refusal::Ports(n), top, m),
+        CapRefusal::Uar(n) => opening_values::fail(s, Refusal::Uar(n), top, m),
+        CapRefusal::UarArea(n) => opening_values::fail(s, Refusal::UarArea(n), top, m),
     }
 }
 
-pub fn port_replied(s: Core, n: u8, y: PortReply, top: Top, m: &[u8]) -> Plan
+// The reply to QUERY_DEV_CAP, and one to QUERY_PORT.
+pub fn cap_replied(s: Core, y: Result<DevCap, CapRefusal>, top: Top, m: &[u8]) -> Plan
+    ensures { CapPlan result s (capability y) top (behind_in m.now) }
+{
+    match y {
+        Ok(cap) => next_port(opening_values::with_cap(s, cap), 0, top, m),
+        Err(why) => cap_refused(s, why, top, m),
+    }
+}
+
+pub fn port_replied(s: Core, n: u8, y: Result<PortInfo, Short>, top: Top, m: &[u8]) -> Plan
     ensures { PortPlan result s n (query_port y) top (behind_in m.now) }
 {
-    if y.short {
-        return opening_values::fail(s, Refusal::Short, top, m);
+    match y {
+        Ok(_) => next_port(s, n, top, m),
+        Err(Short) => opening_values::fail(s, Refusal::Short, top, m),
     }
-    next_port(s, n, top, m)
 }

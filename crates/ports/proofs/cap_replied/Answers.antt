@@ -1,38 +1,21 @@
-use mathlib.Core.Path.{ap, ◌∙◌}
-use borrow.Author.Rules.{rules}
-use Rattle.reply.specs.Capability.{refused_by, capability}
-use Rattle.reply.specs.declared.CapCheck.{CapCheck}
+use mathlib.Core.Path.{ap, sym, ◌∙◌}
+use Rattle.fields.specs.Outcome.{Outcome}
+use Rattle.reply.specs.Capability.{capability}
+use Rattle.reply.specs.declared.DevCap.{DevCap}
+use Rattle.session.specs.Core.{full}
 use Rattle.behind.specs.Behind.{behind_in}
-use Rattle.ports.proofs.Replied.{cap_good, cap_refused}
+use Rattle.opening_plan.specs.Plan as p
+use Rattle.ports.specs.Replied.{after_cap}
+use Rattle.ports.proofs.Replied.{cap_good}
 use Rattle.ports.proofs.cap_replied.Goals as goal
 
-pub returns-in-Good : goal.returns-in-Good
-returns-in-Good c = λ b h.
+pub returns-in-Ok : goal.returns-in-Ok
+returns-in-Ok c = λ b h.
     let p = c.args in
-    let e = ap (λ (z : CapCheck). refused_by z p.y.cap) c.in-Good.is in
-    c.next_port.ensures ∙ cap_good p.s (behind_in p.m.now) b p.top c.with_cap.result p.y.cap (capability p.y) e h c.with_cap.ensures
+    c.next_port.ensures ∙ cap_good p.s (behind_in p.m.now) b p.top c.with_cap.result _ (capability p.y) (ap capability c.in-Ok.is) h c.with_cap.ensures
 
-pub returns-in-Short : goal.returns-in-Short
-returns-in-Short c = λ b h.
-    let p = c.args in
-    c.fail.ensures ∙ cap_refused p.s (behind_in p.m.now) b p.top _ _ (capability p.y) (ap (λ (z : CapCheck). refused_by z p.y.cap) c.in-Short.is) h
-
-pub returns-in-MinPage : goal.returns-in-MinPage
-returns-in-MinPage c = λ b h.
-    let p = c.args in
-    c.fail-in-MinPage.ensures ∙ cap_refused p.s (behind_in p.m.now) b p.top _ _ (capability p.y) (ap (λ (z : CapCheck). refused_by z p.y.cap) c.in-MinPage.is) h
-
-pub returns-in-Ports : goal.returns-in-Ports
-returns-in-Ports c = λ b h.
-    let p = c.args in
-    c.fail-in-Ports.ensures ∙ cap_refused p.s (behind_in p.m.now) b p.top _ _ (capability p.y) (ap (λ (z : CapCheck). refused_by z p.y.cap) c.in-Ports.is) h
-
-pub returns-in-Uar : goal.returns-in-Uar
-returns-in-Uar c = λ b h.
-    let p = c.args in
-    c.fail-in-Uar.ensures ∙ cap_refused p.s (behind_in p.m.now) b p.top _ _ (capability p.y) (ap (λ (z : CapCheck). refused_by z p.y.cap) c.in-Uar.is) h
-
-pub returns-in-UarArea : goal.returns-in-UarArea
-returns-in-UarArea c = λ b h.
-    let p = c.args in
-    c.fail-in-UarArea.ensures ∙ cap_refused p.s (behind_in p.m.now) b p.top _ _ (capability p.y) (ap (λ (z : CapCheck). refused_by z p.y.cap) c.in-UarArea.is) h
+pub returns-in-Err : goal.returns-in-Err
+returns-in-Err c = λ b h.
+    let a = c.args in
+    let e = ap capability c.in-Err.is in
+    c.cap_refused.ensures b (h ∙ ap (λ (z : Outcome DevCap). after_cap z b) e) ∙ sym (ap (λ (z : Outcome DevCap). p.cap_replied (full a.s b) z a.top) e)

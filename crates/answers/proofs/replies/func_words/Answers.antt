@@ -1,7 +1,0 @@
-use Rattle.answers.proofs.replies.func_words.Goals as goal
-
-pub returns-in-Good : goal.returns-in-Good
-returns-in-Good c = rw c.in-Good.is
-
-pub returns-in-Short : goal.returns-in-Short
-returns-in-Short c = rw c.in-Short.is
