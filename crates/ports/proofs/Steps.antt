@@ -1,12 +1,12 @@
 -- The next port, or the layout, by what is tested.
 use Prim.Native.Nat.{ℕ, ◌+◌}
 use mathlib.Core.Bool.{Bool, true, false}
-use mathlib.Core.Path.{◌≡◌, ap, sym}
+use mathlib.Core.Path.{◌≡◌, ap, sym, ◌∙◌}
 use lib.Dec.{ltb}
 use Rattle.std.specs.Prelude.{Result, Ok, Err}
 use Rattle.fields.specs.Outcome.{pick}
 use Rattle.pci.specs.declared.Refusal.TheVariants as x
-use Rattle.layout.specs.Layout.{laid}
+use Rattle.layout.specs.Layout.{laid, misfit_by}
 use Rattle.layout.specs.Counts.{profile_of}
 use Rattle.layout.specs.declared.Layout.{Layout}
 use Rattle.layout.specs.declared.Misfit.{Misfit}
@@ -30,10 +30,10 @@ module _ (s : Session) (top : Top) where
   unfolding layout_plan
   laid_good y l h = sym (ap (λ (z : Result Layout Misfit). layout_plan s (laid z) top) h)
 
-  pub laid_entry : (y : Result Layout Misfit) (i : ℕ) → y ≡ Err (f.Entry i) → fail_plan s (x.Entry i) top ≡ layout_plan s (laid y) top
+  pub laid_entry : (y : Result Layout Misfit) (z : Misfit) (i : ℕ) → y ≡ Err z → z ≡ f.Entry i → fail_plan s (x.Entry i) top ≡ layout_plan s (laid y) top
   unfolding layout_plan
-  laid_entry y i h = sym (ap (λ (z : Result Layout Misfit). layout_plan s (laid z) top) h)
+  laid_entry y z i h e = sym (ap (λ (r : Result Layout Misfit). layout_plan s (laid r) top) h ∙ ap (λ (x : Misfit). layout_plan s (misfit_by x) top) e)
 
-  pub laid_total : (y : Result Layout Misfit) (n : ℕ) → y ≡ Err (f.Total n) → fail_plan s (x.Total n) top ≡ layout_plan s (laid y) top
+  pub laid_total : (y : Result Layout Misfit) (z : Misfit) (n : ℕ) → y ≡ Err z → z ≡ f.Total n → fail_plan s (x.Total n) top ≡ layout_plan s (laid y) top
   unfolding layout_plan
-  laid_total y n h = sym (ap (λ (z : Result Layout Misfit). layout_plan s (laid z) top) h)
+  laid_total y z n h e = sym (ap (λ (r : Result Layout Misfit). layout_plan s (laid r) top) h ∙ ap (λ (x : Misfit). layout_plan s (misfit_by x) top) e)

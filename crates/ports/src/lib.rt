@@ -24,8 +24,10 @@ fn lay_out(s: Core, y: Result<Layout, Misfit>, top: Top, m: &[u8]) -> Plan
 {
     match y {
         Ok(layout) => opening_values::imm(s, Boot::IcmSize, Op::SET_ICM_SIZE, layout.total, top),
-        Err(Misfit::Entry(i)) => opening_values::fail(s, Refusal::Entry(i), top, m),
-        Err(Misfit::Total(n)) => opening_values::fail(s, Refusal::Total(n), top, m),
+        Err(misfit) => match misfit {
+            Misfit::Entry(i) => opening_values::fail(s, Refusal::Entry(i), top, m),
+            Misfit::Total(n) => opening_values::fail(s, Refusal::Total(n), top, m),
+        },
     }
 }
 

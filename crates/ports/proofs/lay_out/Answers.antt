@@ -11,12 +11,12 @@ returns-in-Ok c =
     let b = behind_in p.m.now in
     c.imm.ensures b ∙ laid_good (full p.s b) p.top p.y _ c.in-Ok.is
 
-pub returns-in-Err-Entry : goal.returns-in-Err-Entry
-returns-in-Err-Entry c =
+pub returns-in-Entry : goal.returns-in-Entry
+returns-in-Entry c =
     let p = c.args in
-    c.fail.ensures ∙ laid_entry (full p.s (behind_in p.m.now)) p.top p.y _ c.in-Err-Entry.is
+    c.fail.ensures ∙ laid_entry (full p.s (behind_in p.m.now)) p.top p.y _ _ c.in-Err.is c.in-Entry.is
 
-pub returns-in-Err-Total : goal.returns-in-Err-Total
-returns-in-Err-Total c =
+pub returns-in-Total : goal.returns-in-Total
+returns-in-Total c =
     let p = c.args in
-    c.fail-in-Err-Total.ensures ∙ laid_total (full p.s (behind_in p.m.now)) p.top p.y _ c.in-Err-Total.is
+    c.fail-in-Total.ensures ∙ laid_total (full p.s (behind_in p.m.now)) p.top p.y _ _ c.in-Err.is c.in-Total.is
