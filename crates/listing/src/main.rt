@@ -6,7 +6,7 @@ ghost use Rattle.std.specs.Prelude.{◌≤◌, length, IfOk};
 
 use bars::Size;
 use layout::{Fit, Layout, Table};
-use reply::{CapCheck, DevCap, Kind};
+use reply::{DevCap, Kind};
 use std::io;
 use std::io::Read;
 
@@ -73,10 +73,8 @@ fn read_full(input: &mut impl Read, buf: &mut [u8]) -> io::Result<usize>
 fn main(rt: HostRuntime) -> io::Result<()> {
     let mut space = [0u8; 4096];
     let n = read_full(&mut rt.stdin(), &mut space)?;
-    let c = reply::dev_cap(&space[..n], Size::Unknown);
-    let check = c.check;
-    match check {
-        CapCheck::Good => lay_out(&rt, c.cap),
-        _ => refused(&rt, check.number()),
+    match reply::dev_cap(&space[..n], Size::Unknown) {
+        Ok(cap) => lay_out(&rt, cap),
+        Err(refusal) => refused(&rt, refusal.number()),
     }
 }
