@@ -16,6 +16,7 @@ ghost use Rattle.fw_step.specs.Step as e;
 use fw_begin::Said;
 use fw_plan::Wipe;
 use pci::{Answer, Question};
+use reply::{DevCap, PortInfo};
 use session::{Core, Note, Prepare, Stage};
 use work::{Ending, Task};
 
@@ -126,13 +127,11 @@ pub fn put_note(m: &mut [u8], note: Note, size: Option<u64>, outbox: &[u8])
     match note {
         Note::Nothing => {}
         Note::Cap => {
-            let r = reply::dev_cap(outbox, size);
-            let cap = r.cap;
+            let cap = reply::dev_cap(outbox, size).unwrap_or(DevCap::none());
             behind::put_cap(m, cap);
         }
         Note::Port(i) => {
-            let r = reply::query_port(outbox, i);
-            let info = r.info;
+            let info = reply::query_port(outbox, i).unwrap_or(PortInfo::none());
             behind::put_port(m, i, info);
         }
     }

@@ -8,6 +8,7 @@ ghost use Rattle.answers.specs.Replies.{size_from};
 ghost use Rattle.answers.specs.Tables.{layout_for};
 
 use answers::{field, replies, tables};
+use reply::DevCap;
 
 // INIT_HCA for a capability reply, with the UAR BAR's size known or not. A reply that is refused counts as one with no capabilities and no tables.
 pub fn leaf_init_hca(reply: &[u8], known: bool, bar: u64, inbox: &mut [u8]) -> u32
@@ -18,7 +19,7 @@ pub fn leaf_init_hca(reply: &[u8], known: bool, bar: u64, inbox: &mut [u8]) -> u
     let j = tables::judge(c);
     let l = j.layout;
     let rows = l.rows;
-    field::done(init::fill(inbox, init::init_hca(c.cap, rows)))
+    field::done(init::fill(inbox, init::init_hca(c.unwrap_or(DevCap::none()), rows)))
 }
 
 pub fn leaf_mod_stat_cfg(inbox: &mut [u8]) -> u32

@@ -8,6 +8,7 @@ ghost use Rattle.answers.specs.Replies.{size_from};
 ghost use Rattle.answers.specs.Tables.{layout_words};
 
 use answers::{replies, words};
+use reply::DevCap;
 
 // The least power of two that is at least x, and the exponent of one.
 pub fn leaf_pow2(x: u64) -> u64
@@ -35,7 +36,7 @@ pub fn leaf_layout(reply: &[u8], known: bool, bar: u64, out: &mut [u8]) -> u32
     }
     let c = reply::dev_cap(reply, replies::size_from(known, bar));
     let j = answers::tables::judge(c);
-    let cap = c.cap;
+    let cap = c.unwrap_or(DevCap::none());
     let l = j.layout;
     let rows = l.rows;
     let ranges = l.ranges;

@@ -4,15 +4,15 @@ use mathlib.Core.Bool.{Bool, true, false}
 use mathlib.Core.List.{List}
 use mathlib.Core.Path.{◌≡◌, ap, sym, ◌∙◌}
 use lib.Dec.{eqb}
+use Rattle.std.specs.Prelude.{Result, Ok, Err}
 use Rattle.fields.specs.Outcome.{pick}
 use Rattle.pci.specs.declared.Refusal.TheVariants as r
-use Rattle.reply.specs.Replies.{query_fw, fw_by, query_fw_of, fw_held, query_func}
-use Rattle.reply.specs.declared.FwCheck.{FwCheck}
-use Rattle.reply.specs.declared.FwCheck.TheVariants as w
-use Rattle.reply.specs.declared.FwReply.{FwReply}
+use Rattle.fields.specs.declared.Short.{Short}
+use Rattle.reply.specs.Replies.{query_fw, fw_in, query_fw_of, fw_held, no_fw, query_func}
+use Rattle.reply.specs.declared.FwInfo.{FwInfo}
+use Rattle.reply.specs.declared.FwRefusal.{FwRefusal}
+use Rattle.reply.specs.declared.FwRefusal.TheVariants as w
 use Rattle.reply.specs.declared.FuncInfo.{FuncInfo}
-use Rattle.reply.specs.declared.FuncReply.{FuncReply}
-use Rattle.reply.specs.declared.FuncReply.TheVariants as q
 use Rattle.command.specs.declared.CmdEnd.{CmdEnd}
 use Rattle.session.specs.Failures.{broken_by, needs_reset}
 use Rattle.session.specs.Session.{bookkeeps, informs, took_of}
@@ -74,27 +74,27 @@ module _ (s : Session) (top : Top) where
   func_some h = sym (ap (λ (z : Bool). pick z (ask_plan s k.Adapter 0x006 0 top) (ask_plan s k.Func 0x056 0 top)) h)
 
   -- the reply to QUERY_FW
-  pub fw_made : (y : FwReply) → y.check ≡ w.Good
-      → make_plan (informs (bookkeeps s (with_catas s.books y.info)) (with_revision s.info y.info.rev)) a.Fa (y.info.pages * 4096) top
-      ≡ fw_replied s (query_fw y) y.info top
+  pub fw_made : (y : Result FwInfo FwRefusal) (i : FwInfo) → y ≡ Ok i
+      → make_plan (informs (bookkeeps s (with_catas s.books i)) (with_revision s.info i.rev)) a.Fa (i.pages * 4096) top
+      ≡ fw_replied s (query_fw y) (fw_in y) top
   unfolding fw_replied
-  fw_made y h = sym (ap (λ (z : FwCheck). fw_replied s (fw_by z y.info) y.info top) h)
+  fw_made y i h = sym (ap (λ (z : Result FwInfo FwRefusal). fw_replied s (query_fw z) (fw_in z) top) h)
 
-  pub fw_short : (y : FwReply) → y.check ≡ w.Short
-      → fail_plan (bookkeeps s (with_catas s.books y.info)) r.Short top ≡ fw_replied s (query_fw y) y.info top
+  pub fw_short : (y : FwRefusal) → y ≡ w.Short
+      → fail_plan (bookkeeps s (with_catas s.books no_fw)) r.Short top ≡ fw_replied s (query_fw (Err y)) (fw_in (Err y)) top
   unfolding fw_replied
-  fw_short y h = sym (ap (λ (z : FwCheck). fw_replied s (fw_by z y.info) y.info top) h)
+  fw_short y h = sym (ap (λ (z : FwRefusal). fw_replied s (query_fw (Err z)) (fw_in (Err z)) top) h)
 
-  pub fw_revision : (y : FwReply) (n : ℕ) → y.check ≡ w.Revision n
-      → fail_plan (bookkeeps s (with_catas s.books y.info)) (r.Revision n) top ≡ fw_replied s (query_fw y) y.info top
+  pub fw_revision : (y : FwRefusal) (i : FwInfo) → y ≡ w.Revision i
+      → fail_plan (bookkeeps s (with_catas s.books i)) (r.Revision i.rev) top ≡ fw_replied s (query_fw (Err y)) (fw_in (Err y)) top
   unfolding fw_replied
-  fw_revision y n h = sym (ap (λ (z : FwCheck). fw_replied s (fw_by z y.info) y.info top) h)
+  fw_revision y i h = sym (ap (λ (z : FwRefusal). fw_replied s (query_fw (Err z)) (fw_in (Err z)) top) h)
 
   -- the reply to QUERY_FUNC
-  pub func_good : (y : FuncReply) (i : FuncInfo) → y ≡ q.Good i → ask_plan (informs s (with_func s.info i)) k.Adapter 0x006 0 top ≡ func_replied s (query_func y) top
+  pub func_good : (y : Result FuncInfo Short) (i : FuncInfo) → y ≡ Ok i → ask_plan (informs s (with_func s.info i)) k.Adapter 0x006 0 top ≡ func_replied s (query_func y) top
   unfolding func_replied
-  func_good y i h = sym (ap (λ (z : FuncReply). func_replied s (query_func z) top) h)
+  func_good y i h = sym (ap (λ (z : Result FuncInfo Short). func_replied s (query_func z) top) h)
 
-  pub func_short : (y : FuncReply) → y ≡ q.Short → fail_plan s r.Short top ≡ func_replied s (query_func y) top
+  pub func_short : (y : Result FuncInfo Short) (e : Short) → y ≡ Err e → fail_plan s r.Short top ≡ func_replied s (query_func y) top
   unfolding func_replied
-  func_short y h = sym (ap (λ (z : FuncReply). func_replied s (query_func z) top) h)
+  func_short y e h = sym (ap (λ (z : Result FuncInfo Short). func_replied s (query_func z) top) h)

@@ -4,7 +4,7 @@
 
 ghost use Rattle.std.specs.Prelude.{◌≡◌, ◌*◌};
 ghost use Rattle.reply.specs.Capability.{capability_of};
-ghost use Rattle.reply.specs.Replies.{query_fw, query_func, query_port_of};
+ghost use Rattle.reply.specs.Replies.{query_fw, fw_in, query_func, query_port_of};
 ghost use Rattle.work.specs.declared.End.TheVariants.{Cmd};
 ghost use Rattle.session.specs.declared.Area.TheVariants.{Aux};
 ghost use Rattle.session.specs.declared.Boot.TheVariants.{DevCap, Port};
@@ -15,9 +15,10 @@ ghost use Rattle.opening_plan.specs.Plan as p;
 ghost use Rattle.opening.specs.Notes as n;
 
 use command::CmdEnd;
+use fields::Short;
 use hcr::Op;
 use pci::Refusal;
-use reply::{CapCheck, FuncReply, FwCheck, FwReply};
+use reply::{FuncInfo, FwInfo, FwRefusal};
 use session::{Area, Boot, Closing, Core, Failure, Fill, Gave, Note, Plan, Stage, Top};
 use work::{End, Task};
 
@@ -25,26 +26,21 @@ use work::{End, Task};
 fn cap_value(outbox: &[u8], size: Option<u64>) -> Note
     ensures { result ≡ n.value_note o.Cap (capability_of outbox.now size) }
 {
-    let y = reply::dev_cap(outbox, size);
-    let check = y.check;
-    match check {
-        CapCheck::Good => Note::Cap,
-        CapCheck::Short => Note::Nothing,
-        CapCheck::MinPage(_) => Note::Nothing,
-        CapCheck::Ports(_) => Note::Nothing,
-        CapCheck::Uar(_) => Note::Nothing,
-        CapCheck::UarArea(_) => Note::Nothing,
+    if reply::dev_cap(outbox, size).is_ok() {
+        Note::Cap
+    } else {
+        Note::Nothing
     }
 }
 
 fn port_value(outbox: &[u8], i: u8) -> Note
     ensures { result ≡ n.value_note (o.Port i) (query_port_of outbox.now i) }
 {
-    let y = reply::query_port(outbox, i);
-    if y.short {
-        return Note::Nothing;
+    if reply::query_port(outbox, i).is_ok() {
+        Note::Port(i)
+    } else {
+        Note::Nothing
     }
-    Note::Port(i)
 }
 
 // Nothing of a command that was not good.
@@ -127,30 +123,45 @@ fn query_func(s: Core, top: Top, m: &[u8]) -> Plan
 }
 
 // The replies. The catastrophic buffer is known from QUERY_FW's on, whatever the revision.
-fn fw_replied(s: Core, y: FwReply, top: Top, m: &[u8]) -> Plan
-    ensures { plan_in result (behind_in m.now) ≡ p.fw_replied (full s (behind_in m.now)) (query_fw y) y.info top }
+fn fw_refused(s: Core, why: FwRefusal, top: Top, m: &[u8]) -> Plan
+    ensures { plan_in result (behind_in m.now) ≡ p.fw_replied (full s (behind_in m.now)) (query_fw (Err why)) (fw_in (Err why)) top }
 {
-    let check = y.check;
-    let i = y.info;
-    let t = opening_values::with_catas(s, i);
-    match check {
-        FwCheck::Good => areas::make(
-            opening_values::with_revision(t, i.rev),
+    match why {
+        FwRefusal::Short => opening_values::fail(
+            opening_values::with_catas(s, FwInfo::none()),
+            Refusal::Short,
+            top,
+            m,
+        ),
+        FwRefusal::Revision(i) => opening_values::fail(
+            opening_values::with_catas(s, i),
+            Refusal::Revision(i.rev),
+            top,
+            m,
+        ),
+    }
+}
+
+fn fw_replied(s: Core, y: Result<FwInfo, FwRefusal>, top: Top, m: &[u8]) -> Plan
+    ensures { plan_in result (behind_in m.now) ≡ p.fw_replied (full s (behind_in m.now)) (query_fw y) (fw_in y) top }
+{
+    match y {
+        Ok(i) => areas::make(
+            opening_values::with_revision(opening_values::with_catas(s, i), i.rev),
             Area::Fa,
             (i.pages as u64) * dma::PAGE,
             top,
             m,
         ),
-        FwCheck::Short => opening_values::fail(t, Refusal::Short, top, m),
-        FwCheck::Revision(n) => opening_values::fail(t, Refusal::Revision(n), top, m),
+        Err(why) => fw_refused(s, why, top, m),
     }
 }
 
-fn func_replied(s: Core, y: FuncReply, top: Top, m: &[u8]) -> Plan
+fn func_replied(s: Core, y: Result<FuncInfo, Short>, top: Top, m: &[u8]) -> Plan
     ensures { plan_in result (behind_in m.now) ≡ p.func_replied (full s (behind_in m.now)) (query_func y) top }
 {
     match y {
-        FuncReply::Good(func) => opening_values::ask(
+        Ok(func) => opening_values::ask(
             Core { func, ..s },
             Boot::Adapter,
             Op::QUERY_ADAPTER,
@@ -158,7 +169,7 @@ fn func_replied(s: Core, y: FuncReply, top: Top, m: &[u8]) -> Plan
             top,
             m,
         ),
-        FuncReply::Short => opening_values::fail(s, Refusal::Short, top, m),
+        Err(Short) => opening_values::fail(s, Refusal::Short, top, m),
     }
 }
 

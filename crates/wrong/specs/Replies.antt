@@ -7,8 +7,8 @@ use Rattle.fields.specs.declared.Order.TheVariants.{Big}
 use Rattle.reply.specs.Capability.{bit, dev_cap_of, no_caps, capability_of, refused_by}
 use Rattle.reply.specs.Replies.{no_fw, query_fw_of, fw_held, no_port, query_port_of, query_func_of}
 use Rattle.reply.specs.declared.DevCap.{DevCap}
-use Rattle.reply.specs.declared.CapCheck.{CapCheck}
-use Rattle.reply.specs.declared.CapCheck.TheVariants as k
+use Rattle.reply.specs.declared.CapRefusal.{CapRefusal}
+use Rattle.reply.specs.declared.CapRefusal.TheVariants as k
 use Rattle.reply.specs.declared.FwInfo.{FwInfo}
 use Rattle.reply.specs.declared.PortInfo.{PortInfo}
 use Rattle.reply.specs.declared.FuncInfo.{FuncInfo}
@@ -51,9 +51,9 @@ cap_numbers c =
 abbrev caps : List ℕ → Outcome DevCap
 caps reply = capability_of reply None
 
--- a function of each check: good, short, the smallest page, ports, the UAR field, the UAR area
-abbrev checks : (CapCheck → ℕ) → List ℕ
-checks t = t k.Good ∷ t k.Short ∷ t (k.MinPage 13) ∷ t (k.Ports 3) ∷ t (k.Uar 44) ∷ t (k.UarArea 7) ∷ []
+-- a function of each refusal: short, the smallest page, ports, the UAR field, the UAR area
+abbrev checks : (CapRefusal → ℕ) → List ℕ
+checks t = t k.Short ∷ t (k.MinPage 13) ∷ t (k.Ports 3) ∷ t (k.Uar 44) ∷ t (k.UarArea 7) ∷ []
 
 -- both VEP steering capabilities
 abbrev steers : ℕ → ℕ
@@ -68,8 +68,8 @@ caps_are =
 -- reply: QUERY_DEV_CAP
 abbrev pub capabilities : List Row
 capabilities =
-    -- CapCheck::number: 20 for a short reply; 14 and 15 exchanged
-    row (checks (λ c. number_of (refused_by c no_caps))) (0 ∷ 20 ∷ 12 ∷ 13 ∷ 14 ∷ 15 ∷ []) (0 ∷ 21 ∷ 12 ∷ 13 ∷ 15 ∷ 14 ∷ []) ∷
+    -- CapRefusal::number: 20 for a short reply; 14 and 15 exchanged
+    row (checks (λ c. number_of (refused_by c))) (20 ∷ 12 ∷ 13 ∷ 14 ∷ 15 ∷ []) (21 ∷ 12 ∷ 13 ∷ 15 ∷ 14 ∷ []) ∷
     -- flag (41, 43, 64): one bit too low; the number modulo 64
     row (yes (bit 41 0x0001060000000001) ∷ yes (bit 43 0x0001060000000001) ∷ yes (bit 64 0x0001060000000001) ∷ []) (0 ∷ 1 ∷ 0 ∷ []) (1 ∷ 0 ∷ 1 ∷ []) ∷
     -- b0 (41 alone, 41 and 42, 41 and 43): by the first alone; by 43 for 42

@@ -1,4 +1,5 @@
 use mathlib.Core.Path.{refl, ap, sym, subst, ◌∙◌}
+use Rattle.std.specs.Result.{result_unwrap_or}
 use Rattle.reply.specs.declared.DevCap.{DevCap}
 use Rattle.reply.specs.declared.PortInfo.{PortInfo}
 use Rattle.words.specs.Places.{cap_at, port1_at, port2_at}
@@ -13,49 +14,22 @@ use Rattle.fw_step.proofs.Laws.{noted_by_lem}
 use borrow.Author.Rules.{rules}
 use Rattle.fw_step.proofs.put_note.Goals as goal
 
-pub enum_told-1 : goal.enum_told-1
-enum_told-1 c = search rules
-
-pub enum_told-in-Cap : goal.enum_told-in-Cap
-enum_told-in-Cap c = search rules
-
-pub dev_cap-r-requires : goal.dev_cap-r-requires
-dev_cap-r-requires c = search rules
-
-pub put_cap-requires : goal.put_cap-requires
-put_cap-requires c = search rules
-
-pub enum_known-note : goal.enum_known-note
-enum_known-note c = search rules
-
-pub query_port-r-requires : goal.query_port-r-requires
-query_port-r-requires c = search rules
-
-pub put_port-requires : goal.put_port-requires
-put_port-requires c = search rules
-
 pub returns-in-Nothing : goal.returns-in-Nothing
 returns-in-Nothing c =
     let p = c.args in
     let parts = noted_by_lem p.note n.Nothing p.size p.outbox.now p.m.now p.m.now c.in-Nothing.is refl tt in record { m_after = parts.0; rewrites = parts.1 }
 
-pub shape_of-m-in-Cap : goal.shape_of-m-in-Cap
-shape_of-m-in-Cap c = search rules
-
 pub returns-in-Cap : goal.returns-in-Cap
 returns-in-Cap c =
     let p = c.args in
-    let held = c.dev_cap-r.ensures.held in
+    let held = c.unwrap_or-cap.ensures ∙ ap (result_unwrap_or c.dev_cap.result) c.none.ensures ∙ c.dev_cap.ensures.held in
     let parts = noted_by_lem p.note n.Cap p.size p.outbox.now p.m.now _ c.in-Cap.is
-    (c.put_cap.ensures ∙ ap (λ (k : DevCap). put_part cap_at (cap_words k) p.m.now) held) (subst CapFits held (cap_typed _ _ c.dev_cap-r.type_inv.1.1.1.0)) in record { m_after = parts.0; rewrites = parts.1 }
-
-pub shape_of-m-in-Port : goal.shape_of-m-in-Port
-shape_of-m-in-Port c = search rules
+    (c.put_cap.ensures ∙ ap (λ (k : DevCap). put_part cap_at (cap_words k) p.m.now) held) (subst CapFits held (cap_typed _ _ c.unwrap_or-cap.type_inv.1.1.1.0)) in record { m_after = parts.0; rewrites = parts.1 }
 
 pub returns-in-Port : goal.returns-in-Port
 returns-in-Port c =
     let p = c.args in
     let i = c.in-Port.i in
-    let held = c.query_port-r.ensures.held in
+    let held = c.unwrap_or-info.ensures ∙ ap (result_unwrap_or c.query_port.result) c.none-in-Port.ensures ∙ c.query_port.ensures.held in
     let parts = noted_by_lem p.note (n.Port i) p.size p.outbox.now p.m.now _ c.in-Port.is
-    (c.put_port.ensures ∙ ap (λ (k : PortInfo). put_part (pick (eqb i 1) port1_at port2_at) (port_words k) p.m.now) held) (subst PortFits held (port_typed _ _ c.query_port-r.type_inv.1.1.1.0)) in record { m_after = parts.0; rewrites = parts.1 }
+    (c.put_port.ensures ∙ ap (λ (k : PortInfo). put_part (pick (eqb i 1) port1_at port2_at) (port_words k) p.m.now) held) (subst PortFits held (port_typed _ _ c.unwrap_or-info.type_inv.1.1.1.0)) in record { m_after = parts.0; rewrites = parts.1 }

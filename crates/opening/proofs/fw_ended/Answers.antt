@@ -2,7 +2,7 @@ use mathlib.Core.Path.{ap, sym, ◌∙◌}
 use borrow.Author.Rules.{rules}
 use Rattle.fields.specs.Outcome.{Outcome}
 use Rattle.pci.specs.declared.Refusal.{Refusal}
-use Rattle.reply.specs.Replies.{query_fw, query_fw_of}
+use Rattle.reply.specs.Replies.{query_fw, fw_in, query_fw_of}
 use Rattle.reply.specs.declared.FwInfo.{FwInfo}
 use Rattle.session.specs.declared.Core.{Core}
 use Rattle.session.specs.declared.Session.{Session}
@@ -21,8 +21,8 @@ returns-then-is_done c =
     let s = full p.s b in
     let y = c.query_fw.result in
     c.fw_replied.ensures
-    ∙ ap (λ (d : Core). fw_replied (full d b) (query_fw y) y.info p.top) c.took-t.ensures
-    ∙ ap (λ (v : Outcome FwInfo). fw_replied (took_of s p.x) v y.info p.top) c.query_fw.ensures.said
+    ∙ ap (λ (d : Core). fw_replied (full d b) (query_fw y) (fw_in y) p.top) c.took-t.ensures
+    ∙ ap (λ (v : Outcome FwInfo). fw_replied (took_of s p.x) v (fw_in y) p.top) c.query_fw.ensures.said
     ∙ ap (λ (i : FwInfo). fw_replied (took_of s p.x) (query_fw_of p.outbox.now p.s.uar.index) i p.top) c.query_fw.ensures.held
     ∙ fw_good s p.x p.top p.outbox.now (sym c.is_done.ensures ∙ c.if-is_done.true)
 

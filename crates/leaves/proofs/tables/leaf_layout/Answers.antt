@@ -3,6 +3,7 @@ use Prim.Native.Nat.{ℕ}
 use mathlib.Core.Path.{◌≡◌, ap, ◌∙◌}
 use mathlib.Core.List.{List, [], ◌∷◌}
 use borrow.Author.Tests.{le-leb}
+use Rattle.std.specs.Result.{result_unwrap_or}
 use Rattle.fields.specs.Outcome.{Outcome, value_or}
 use Rattle.reply.specs.Capability.{capability, capability_of, no_caps}
 use Rattle.reply.specs.declared.DevCap.{DevCap}
@@ -26,7 +27,7 @@ returns-clause-out_after c =
     let b = c.first_free_mtt.result in
     let o : Outcome DevCap = capability_of s (size_from p.known p.bar) in
     let said : capability c.dev_cap-c.result ≡ o = c.dev_cap-c.ensures.said ∙ ap (capability_of s) c.size_from.ensures in
-    let held : c.dev_cap-c.result.cap ≡ value_or no_caps o = c.dev_cap-c.ensures.held ∙ ap (λ (x : Option ℕ). value_or no_caps (capability_of s x)) c.size_from.ensures in
+    let held : c.unwrap_or-cap.result ≡ value_or no_caps o = c.unwrap_or-cap.ensures ∙ ap (result_unwrap_or c.dev_cap-c.result) c.none.ensures ∙ c.dev_cap-c.ensures.held ∙ ap (λ (x : Option ℕ). value_or no_caps (capability_of s x)) c.size_from.ensures in
     let judged : j ≡ judged_of (code_of (layout_for o)) (value_or no_layout (layout_for o)) =
     c.judge-j.ensures ∙ ap (λ (x : Outcome DevCap). judged_of (code_of (layout_for x)) (value_or no_layout (layout_for x))) said in
     let wrote = c.put-2.ensures
