@@ -6,7 +6,7 @@ ghost use Rattle.session.specs.declared.Core.{Core};
 ghost use Rattle.session.specs.Core.{full, plan_in, PlanIs};
 ghost use Rattle.session.specs.Session.{slot_at};
 ghost use Rattle.behind.specs.Behind.{behind_in};
-ghost use Rattle.client_plan.specs.Client.{takes_input, gives_output, gives_immediate, in_address, out_address, post_of, gave_by, over, lesser};
+ghost use Rattle.client_plan.specs.Client.{takes_input, gives_output, gives_immediate, in_address, out_address, post_of, gave_by, over};
 ghost use Rattle.client_plan.specs.Plan.{rest_plan, fill_for, command_plan, lend_plan, undo_send, undo_plan, undo_to_plan, command_ended, lend_ended, undo_ended, client_plan};
 
 use buffer::{Made, MakeStep, Making};
@@ -105,25 +105,12 @@ fn post(r: Request, m: &[u8]) -> Post
     }
 }
 
-fn least(a: usize, b: usize) -> usize
-    ensures { result ≡ lesser a b }
-{
-    if a < b {
-        return a;
-    }
-    b
-}
-
 // The bytes of the one stand at the start of the other; what does not fit is left out.
 pub fn copy(to: &mut [u8], from: &[u8])
     ensures { to.new ≡ over from.now to.old }
 {
-    let n = least(to.len(), from.len());
-    let mut i: usize = 0;
-    while i < n {
-        to[i] = from[i];
-        i = i + 1;
-    }
+    let n = to.len().min(from.len());
+    to[..n].copy_from_slice(&from[..n]);
 }
 
 // The call is over, and this is what it gave.

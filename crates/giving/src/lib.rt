@@ -147,13 +147,11 @@ fn free(s: Core, i: usize, b: Buffer, undo: usize) -> Plan
 pub fn free_from(s: Core, i: usize, undo: usize, m: &[u8]) -> Plan
     ensures { plan_in result (behind_in m.now) ≡ frees_plan (82 - i) i (full s (behind_in m.now)) undo }
 {
-    let mut k = i;
-    while k < Slot::COUNT {
+    for k in i..Slot::COUNT {
         let slot = behind::slot_at(m, k);
         if is_held(slot) {
             return free(s, k, session::buffer_of(slot), undo);
         }
-        k = k + 1;
     }
     release(s, undo)
 }

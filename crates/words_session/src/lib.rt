@@ -381,10 +381,8 @@ fn put_none(s: &mut [u8])
     requires { state_bytes ≤ length s.old }
     ensures { s.new ≡ put_words s.old slots_at (flat slot_words (replicate 82 no_slot)) }
 {
-    let mut i: usize = 0;
-    while i < words::SLOTS {
+    for i in 0..words::SLOTS {
         clear_slot(s, i);
-        i = i + 1;
     }
 }
 

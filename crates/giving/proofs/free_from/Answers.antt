@@ -36,9 +36,3 @@ returns c =
 
 pub loop-k-init : goal.loop-k-init
 loop-k-init c = refl
-
-pub overflow_add-k : goal.overflow_add-k
-overflow_add-k c = omega arith
-
-pub loop-k-smaller : goal.loop-k-smaller
-loop-k-smaller c = omega arith

@@ -13,6 +13,3 @@ use Rattle.giving.proofs.free_from.Given as goal
 -- what is left to be freed is the whole
 abbrev pub invariant-loop-k : goal.invariant-loop-k
 invariant-loop-k l = frees_plan (82 - l.k) l.k (full l.s (behind_in l.m)) l.undo ≡ frees_plan (82 - l.i) l.i (full l.s (behind_in l.m)) l.undo
-
-abbrev pub decreases-loop-k : goal.decreases-loop-k
-decreases-loop-k l = 82 - l.k

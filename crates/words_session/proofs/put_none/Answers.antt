@@ -13,34 +13,18 @@ use Rattle.words_session.proofs.Laws.{none_turn, none_end}
 use Rattle.words_session.proofs.put_none.Goals as goal
 
 pub loop-i-init : goal.loop-i-init
-loop-i-init c = (omega arith, refl, refl)
+loop-i-init c = refl
 
 pub clear_slot-requires : goal.clear_slot-requires
-clear_slot-requires c =
-    let h = c.requires in
-    let n = c.loop-i.invariant.1 in
-    (omega arith, omega arith)
+clear_slot-requires c = let h = c.requires in (omega arith, omega arith)
 
 pub loop-i-preserved : goal.loop-i-preserved
 loop-i-preserved c =
     let l = c.loop-i in
-    let e = c.clear_slot.ensures in (
-      omega arith,
-      ap length e ∙ length_words l.s (slots_at + l.i * SLOT) (slot_words no_slot) ∙ l.invariant.1,
-      ap (λ (x : List ℕ). put_words x (slots_at + (l.i + 1) * SLOT) (flat slot_words (replicate (SLOTS - (l.i + 1)) no_slot))) e
-          ∙ none_turn l.s slots_at SLOTS l.i slot_words no_slot SLOT refl c.loop-i-test.true ∙ l.invariant.2,
-    )
-
-pub shape_of-s : goal.shape_of-s
-shape_of-s c = c.loop-i.invariant.1
+    ap (λ (x : List ℕ). put_words x (slots_at + (l.i + 1) * SLOT) (flat slot_words (replicate (SLOTS - (l.i + 1)) no_slot))) c.clear_slot.ensures
+    ∙ none_turn l.s slots_at SLOTS l.i slot_words no_slot SLOT refl c.loop-i-test.true ∙ l.invariant
 
 pub returns : goal.returns
 returns c =
     let l = c.loop-i in
-    sym (none_end l.s (slots_at + l.i * SLOT) SLOTS l.i slot_words no_slot c.loop-i-test.false) ∙ l.invariant.2
-
-pub overflow_add-i : goal.overflow_add-i
-overflow_add-i c = omega arith
-
-pub loop-i-smaller : goal.loop-i-smaller
-loop-i-smaller c = omega arith
+    sym (none_end l.s (slots_at + l.i * SLOT) SLOTS l.i slot_words no_slot c.loop-i-test.false) ∙ l.invariant
