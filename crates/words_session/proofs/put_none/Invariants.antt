@@ -14,5 +14,5 @@ use Rattle.words_session.proofs.put_none.Given as goal
 
 -- the slots still to be written give what was to be written at first
 abbrev pub invariant-loop-i : goal.invariant-loop-i
-invariant-loop-i l = 
+invariant-loop-i l =
     put_words l.s (slots_at + l.i * SLOT) (flat slot_words (replicate (SLOTS - l.i) no_slot)) ≡ put_words l.initial.s slots_at (flat slot_words (replicate SLOTS no_slot))
