@@ -103,8 +103,10 @@ fn found(s: Core, y: Result<Pick, NotFound>, top: Top) -> Plan
 {
     match y {
         Ok(uar) => box_plan(Core { uar, ..s }, Prepare::Inbox, top),
-        Err(NotFound::Refused) => part(s, Refusal::Bar, top),
-        Err(NotFound::BadList) => part(s, Refusal::List, top),
+        Err(why) => match why {
+            NotFound::Refused => part(s, Refusal::Bar, top),
+            NotFound::BadList => part(s, Refusal::List, top),
+        },
     }
 }
 
