@@ -60,7 +60,7 @@ use Rattle.work.specs.declared.Work.{Work}
 use Rattle.work.specs.declared.End.{End}
 use Rattle.work.specs.declared.Ending.{Ending}
 use Rattle.work.specs.declared.Ending.TheVariants as e
-use Rattle.session.specs.Course.{Course, ret, ask, Here, here, Lent, lent, Place, neither, inbox, outbox, slot, touched, zeroed, books_by, booked, run, Rest}
+use Rattle.session.specs.Course.{Course, Here, here, Lent, lent, Place, neither, inbox, outbox, slot, touched, zeroed, books_by, booked, run, Rest}
 use Rattle.session.specs.Session.{bookkeeps, puts, bare, INBOX, OUTBOX}
 use Rattle.session.specs.declared.Books.{Books}
 use Rattle.session.specs.declared.Info.{Info}
