@@ -38,12 +38,7 @@ pub fn virt_from(has: bool, at: u64) -> Option<u64>
 fn cutter_words(c: Cutter) -> [u64; 4]
     ensures { result ≡ cutter_words c }
 {
-    [
-        c.virt.is_some() as u64,
-        c.virt.unwrap_or(0),
-        c.phys,
-        c.left,
-    ]
+    [c.virt.is_some() as u64, c.virt.unwrap_or(0), c.phys, c.left]
 }
 
 pub fn started_words(s: Result<Cutter, BadAddress>) -> [u64; 5]
