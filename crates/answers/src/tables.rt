@@ -29,11 +29,9 @@ pub fn put_rows(out: &mut [u8], rows: [Table; 11])
     ensures out_after { out.new ≡ put_words out.old 5 (rows_words rows) }
     ensures rows_len { length rows ≡ 11 }
 {
-    let mut i: usize = 0;
-    while i < 11 {
-        let w = row_words(rows[i]);
+    for (i, t) in rows.iter().enumerate() {
+        let w = row_words(*t);
         words::put(out, ROWS_AT + i * 5, &w);
-        i = i + 1;
     }
 }
 
@@ -42,11 +40,8 @@ pub fn put_ranges(out: &mut [u8], ranges: [Range; 14])
     ensures out_after { out.new ≡ put_words out.old 60 (ranges_words ranges) }
     ensures ranges_len { length ranges ≡ 14 }
 {
-    let mut i: usize = 0;
-    while i < 14 {
-        let r = ranges[i];
+    for (i, r) in ranges.iter().enumerate() {
         words::put(out, RANGES_AT + i * 2, &[r.virt, r.bytes]);
-        i = i + 1;
     }
 }
 

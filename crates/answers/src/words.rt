@@ -12,10 +12,8 @@ pub fn put(out: &mut [u8], at: usize, words: &[u64])
     if out.len() / 8 < at {
         return;
     }
-    let mut i: usize = 0;
-    while i < words.len() {
-        let _ = fields::set_be64(out, (at + i) * 8, words[i]);
-        i = i + 1;
+    for (i, w) in words.iter().enumerate() {
+        let _ = fields::set_be64(out, (at + i) * 8, *w);
     }
 }
 

@@ -5,7 +5,6 @@
 mod asked;
 mod item;
 mod run;
-mod text;
 mod told;
 
 use std::io;

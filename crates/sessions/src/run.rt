@@ -1,7 +1,7 @@
 // A session runs on the items of the input.
-use crate::asked::Asked;
-use crate::item::Item;
-use crate::{asked, item, text, told};
+use crate::asked::Said;
+use crate::item::{Item, What};
+use crate::{asked, item, told};
 use session::Top;
 use std::io;
 use std::io::Read;
@@ -16,7 +16,7 @@ struct Place {
 }
 
 // The number of `Done` over C linkage.
-const DONE: u32 = 4;
+const DONE: u8 = 4;
 
 fn begin() -> Place {
     Place {
@@ -53,14 +53,14 @@ fn top(p: Place) -> Top {
 
 // A record is pushed on the list.
 fn pushed(rt: &impl Print, p: Place, i: Item) -> io::Result<Place> {
-    text::line(rt, b"call", Item::PUSH as u64)?;
+    println!(rt; "call a")?;
     if p.undo < 256 {
         let mut heads = p.heads;
         let mut params = p.params;
         let k = p.undo as usize;
         heads[k] = i.a;
         params[k] = i.b;
-        text::line(rt, b"undo", p.undo + 1)?;
+        println!(rt; "undo {:x}", p.undo + 1)?;
         return Ok(Place {
             undo: p.undo + 1,
             heads,
@@ -71,17 +71,11 @@ fn pushed(rt: &impl Print, p: Place, i: Item) -> io::Result<Place> {
     Ok(p)
 }
 
-fn byte_or(s: &[u8], i: usize, other: u8) -> u8 {
-    if i < s.len() {
-        return s[i];
-    }
-    other
-}
-
 // These bytes, and others behind them.
 fn fill(out: &mut [u8], s: &[u8], other: u8) {
-    for i in 0..out.len() {
-        out[i] = byte_or(s, i, other);
+    out.fill(other);
+    for (to, from) in out.iter_mut().zip(s) {
+        *to = *from;
     }
 }
 
@@ -92,16 +86,16 @@ fn fresh(
     inbox: &mut [u8],
     outbox: &mut [u8],
 ) -> io::Result<Place> {
-    text::word(rt, b"list\n")?;
+    println!(rt; "list")?;
     turns::fresh_bytes(state);
-    fill(inbox, b"", 0xa5);
-    fill(outbox, b"", 0xa5);
+    inbox.fill(0xa5);
+    outbox.fill(0xa5);
     Ok(begin())
 }
 
 // The session is handed an answer.
 fn given(
-    kind: u32,
+    kind: u8,
     a: u64,
     b: u64,
     list: &[u8],
@@ -109,39 +103,27 @@ fn given(
     state: &mut [u8],
     inbox: &mut [u8],
     outbox: &mut [u8],
-) -> Asked {
+) -> Said {
     let mut out = [0u8; 40];
+    let kind = u32::from(kind);
     let code = turn_answer::answered(state, kind, a, b, list, inbox, outbox, t, &mut out);
     asked::read(code, &out)
 }
 
-// The session is called, or handed an answer.
-fn said(
-    rt: &impl Print,
+// The session is called.
+fn called(
+    kind: u8,
     i: Item,
     list: &[u8],
     t: Top,
     state: &mut [u8],
     inbox: &mut [u8],
     outbox: &mut [u8],
-) -> io::Result<Asked> {
-    if Item::ANSWER <= i.kind {
-        return Ok(given(
-            (i.kind % 16) as u32,
-            i.a,
-            i.b,
-            list,
-            t,
-            state,
-            inbox,
-            outbox,
-        ));
-    }
+) -> Said {
     let mut out = [0u8; 40];
-    text::line(rt, b"call", i.kind as u64)?;
     let code = turn_call::called(
         state,
-        i.kind as u32,
+        u32::from(kind),
         item::op(i.a),
         item::op_mod(i.a),
         item::in_mod(i.a),
@@ -153,11 +135,11 @@ fn said(
         t,
         &mut out,
     );
-    Ok(asked::read(code, &out))
+    asked::read(code, &out)
 }
 
 // The kind of an answer where an even number of answers was given, and else `Done`.
-fn in_turn(gone: u64, kind: u32) -> u32 {
+fn in_turn(gone: u64, kind: u8) -> u8 {
     if gone % 2 == 0 {
         return kind;
     }
@@ -167,34 +149,23 @@ fn in_turn(gone: u64, kind: u32) -> u32 {
 // An answer and `Done` are given in turn, so often as the first value says. The line has that number, and a checksum of the questions that they led to, which have no lines.
 fn again(
     rt: &impl Print,
+    kind: u8,
     i: Item,
     t: Top,
     state: &mut [u8],
     inbox: &mut [u8],
     outbox: &mut [u8],
 ) -> io::Result<()> {
-    let kind = (i.kind % 16) as u32;
     let mut sum: u64 = 0;
     for gone in 0..i.a % 4294967296 * 2 {
         let q = given(in_turn(gone, kind), i.b, 0, b"", t, state, inbox, outbox);
         sum = asked::counted(sum, q);
     }
-    text::word(rt, b"times")?;
-    text::number(rt, i.a)?;
-    text::number(rt, sum)?;
-    text::end_line(rt)
+    println!(rt; "times {:x} {sum:x}", i.a)
 }
 
-// The kind of the call that runs once an item of a kind has come.
-fn running(call: u8, kind: u8) -> u8 {
-    if kind < Item::ANSWER {
-        return kind;
-    }
-    call
-}
-
-// A call or an answer, and what it has led to.
-fn onward(
+// What an item asks for, and what it has led to; its bytes are the list.
+fn turn(
     rt: &impl Print,
     p: Place,
     i: Item,
@@ -203,46 +174,30 @@ fn onward(
     inbox: &mut [u8],
     outbox: &mut [u8],
 ) -> io::Result<Place> {
-    let call = running(p.call, i.kind);
-    let q = said(rt, i, list, top(p), state, inbox, outbox)?;
+    let t = top(p);
+    let (call, q) = match i.what {
+        What::List => return fresh(rt, state, inbox, outbox),
+        What::Push => return pushed(rt, p, i),
+        What::Outbox => {
+            fill(outbox, list, 0);
+            return Ok(p);
+        }
+        What::Again(kind) => {
+            again(rt, kind, i, t, state, inbox, outbox)?;
+            return Ok(p);
+        }
+        What::Call(kind) => {
+            println!(rt; "call {kind:x}")?;
+            (kind, called(kind, i, list, t, state, inbox, outbox))
+        }
+        What::Answer(kind) => (p.call, given(kind, i.a, i.b, list, t, state, inbox, outbox)),
+    };
     told::came(rt, q, call, state, inbox, outbox)?;
     Ok(Place {
         call,
         undo: q.undo,
         ..p
     })
-}
-
-// What an item asks for; its bytes are the first of those that were read.
-fn turn(
-    rt: &impl Print,
-    p: Place,
-    i: Item,
-    room: &[u8],
-    state: &mut [u8],
-    inbox: &mut [u8],
-    outbox: &mut [u8],
-) -> io::Result<Place> {
-    if i.kind == Item::LIST {
-        return fresh(rt, state, inbox, outbox);
-    }
-    if i.kind == Item::PUSH {
-        return pushed(rt, p, i);
-    }
-    let n = i.bytes as usize;
-    if room.len() < n {
-        return Ok(p);
-    }
-    let list = &room[..n];
-    if i.kind == Item::OUTBOX {
-        fill(outbox, list, 0);
-        return Ok(p);
-    }
-    if i.kind < Item::AGAIN {
-        return onward(rt, p, i, list, state, inbox, outbox);
-    }
-    again(rt, i, top(p), state, inbox, outbox)?;
-    Ok(p)
 }
 
 // The items, one after the other. No input has so many; a proved loop has to end.
@@ -256,11 +211,11 @@ fn run(
 ) -> io::Result<()> {
     let mut p = begin();
     for _ in 0..u64::MAX {
-        let i = item::next(input, room)?;
-        if i.kind == Item::END {
+        let Some(i) = item::next(input, room)? else {
             break;
-        }
-        p = turn(rt, p, i, room, state, inbox, outbox)?;
+        };
+        let list = room.get(..i.bytes as usize).unwrap_or(b"");
+        p = turn(rt, p, i, list, state, inbox, outbox)?;
     }
     Ok(())
 }

@@ -1,9 +1,10 @@
 // What a call or an answer has led to, as lines of text.
 ghost use Rattle.std.specs.Prelude.{◌<◌, ◌≤◌};
 
-use crate::asked::Asked;
-use crate::{asked, item, text};
+use crate::asked::Said;
+use crate::{asked, item};
 use std::io;
+use stored::question::{Kind, UnknownKind};
 
 // What a call may come to: its opening failed, or the session was closed. Else it is open.
 const FAILED: u64 = 3;
@@ -14,35 +15,24 @@ const CLOSED: u64 = 4;
 const OPEN: u8 = 0;
 
 fn checksum(s: &[u8]) -> u64 {
-    let mut sum: u64 = 0;
-    for b in s {
-        sum = asked::summed_byte(sum, *b);
-    }
-    sum
+    s.iter().fold(0, |sum, b| asked::summed(sum, u64::from(*b)))
 }
 
-// The words from one on, before another.
-fn numbers(rt: &impl Print, s: &[u8], from: u16, to: u16) -> io::Result<()> {
+// A line of a name and the words from one on, before another.
+fn row(rt: &impl Print, name: &str, s: &[u8], from: u16, to: u16) -> io::Result<()> {
+    print!(rt; "{name}")?;
     for k in from..to {
-        text::number(rt, item::word(s, k))?;
+        print!(rt; " {:x}", item::word(s, k))?;
     }
-    Ok(())
-}
-
-fn row(rt: &impl Print, name: &[u8], s: &[u8], from: u16, to: u16) -> io::Result<()> {
-    text::word(rt, name)?;
-    numbers(rt, s, from, to)?;
-    text::end_line(rt)
+    println!(rt)
 }
 
 // Rows of so many words each, from a word on, before another.
-fn rows(rt: &impl Print, name: &[u8], s: &[u8], from: u16, to: u16, width: u16) -> io::Result<()>
+fn rows(rt: &impl Print, name: &str, s: &[u8], from: u16, to: u16, width: u16) -> io::Result<()>
     requires { (to ≤ 280) × (0 < width) × (width ≤ 17) }
 {
-    let mut k = from;
-    while k < to {
+    for k in (from..to).step_by(usize::from(width)) {
         row(rt, name, s, k, k + width)?;
-        k = k + width;
     }
     Ok(())
 }
@@ -63,22 +53,22 @@ fn lent_end(n: u64) -> u16
 
 // What an opening has found out.
 fn setup(rt: &impl Print, s: &[u8]) -> io::Result<()> {
-    row(rt, b"uar", s, 0, 3)?;
-    row(rt, b"func", s, 4, 8)?;
-    row(rt, b"caps", s, 8, 21)?;
-    row(rt, b"flags", s, 22, 40)?;
-    rows(rt, b"port", s, 40, ports_end(item::word(s, 74)), 17)?;
-    row(rt, b"layout", s, 74, 78)?;
-    rows(rt, b"table", s, 78, 133, 5)?;
-    row(rt, b"compared", s, 133, 134)
+    row(rt, "uar", s, 0, 3)?;
+    row(rt, "func", s, 4, 8)?;
+    row(rt, "caps", s, 8, 21)?;
+    row(rt, "flags", s, 22, 40)?;
+    rows(rt, "port", s, 40, ports_end(item::word(s, 74)), 17)?;
+    row(rt, "layout", s, 74, 78)?;
+    rows(rt, "table", s, 78, 133, 5)?;
+    row(rt, "compared", s, 133, 134)
 }
 
 // What an open session holds.
 fn books(rt: &impl Print, s: &[u8], records: u64) -> io::Result<()> {
-    row(rt, b"books", s, 0, 5)?;
-    row(rt, b"broken", s, 6, 11)?;
-    rows(rt, b"lent", s, 88, lent_end(item::word(s, 1)), 3)?;
-    text::line(rt, b"undo", records)
+    row(rt, "books", s, 0, 5)?;
+    row(rt, "broken", s, 6, 11)?;
+    rows(rt, "lent", s, 88, lent_end(item::word(s, 1)), 3)?;
+    println!(rt; "undo {records:x}")
 }
 
 // What an open session has found out, behind its opening, and what it holds.
@@ -90,10 +80,7 @@ fn opened(
     held: &[u8],
     records: u64,
 ) -> io::Result<()> {
-    if res == FAILED {
-        return Ok(());
-    }
-    if res == CLOSED {
+    if res == FAILED || res == CLOSED {
         return Ok(());
     }
     if call == OPEN {
@@ -109,35 +96,35 @@ fn gave(rt: &impl Print, call: u8, records: u64, state: &[u8]) -> io::Result<()>
     readers::result_bytes(state, &mut result);
     readers::setup_bytes(state, &mut found);
     readers::books_bytes(state, &mut held);
-    row(rt, b"gave", &result, 0, 5)?;
+    row(rt, "gave", &result, 0, 5)?;
     opened(rt, call, item::word(&result, 0), &found, &held, records)
 }
 
 fn boxes(rt: &impl Print, inbox: &[u8], outbox: &[u8]) -> io::Result<()> {
-    text::word(rt, b"boxes")?;
-    text::number(rt, checksum(inbox))?;
-    text::number(rt, checksum(outbox))?;
-    text::end_line(rt)
+    println!(rt; "boxes {:x} {:x}", checksum(inbox), checksum(outbox))
 }
 
 // What a call of that kind, or an answer in it, has led to: a refusal, the call's end, or a question.
 pub(crate) fn came(
     rt: &impl Print,
-    q: Asked,
+    q: Said,
     call: u8,
     state: &[u8],
     inbox: &[u8],
     outbox: &[u8],
 ) -> io::Result<()> {
     if q.refusal != 0 {
-        return text::line(rt, b"refused", q.refusal as u64);
+        return println!(rt; "refused {:x}", q.refusal);
     }
-    if q.kind == Asked::FINISHED {
-        gave(rt, call, q.undo, state)?;
-        return boxes(rt, inbox, outbox);
+    match q.asked() {
+        Ok(x) => match x.kind {
+            Kind::Finished => {
+                gave(rt, call, q.undo, state)?;
+                boxes(rt, inbox, outbox)
+            }
+            Kind::Fence => println!(rt; "fence {:x}", checksum(inbox)),
+            _ => println!(rt; "{x}"),
+        },
+        Err(UnknownKind(number)) => println!(rt; "unknown {number:x}"),
     }
-    if q.kind == Asked::FENCE {
-        return text::line(rt, b"fence", checksum(inbox));
-    }
-    asked::line(rt, q)
 }

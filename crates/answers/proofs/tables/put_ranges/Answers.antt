@@ -14,11 +14,11 @@ use Rattle.answers.proofs.tables.put_ranges.Goals as goal
 pub loop-i-init : goal.loop-i-init
 loop-i-init c = (omega arith, refl, refl)
 
-pub offset_bounds-ranges-i : goal.offset_bounds-ranges-i
-offset_bounds-ranges-i c = omega arith
+pub offset_bounds-r-items-i : goal.offset_bounds-r-items-i
+offset_bounds-r-items-i c = omega arith
 
-pub bounds-ranges-i : goal.bounds-ranges-i
-bounds-ranges-i c = omega arith
+pub bounds-r-items-i : goal.bounds-r-items-i
+bounds-r-items-i c = omega arith
 
 pub overflow_mul-i : goal.overflow_mul-i
 overflow_mul-i c = omega arith
@@ -31,12 +31,6 @@ slice_bounds-put-end c = search rules
 
 pub put-requires : goal.put-requires
 put-requires c = omega arith
-
-pub overflow_add-i-in-loop-i : goal.overflow_add-i-in-loop-i
-overflow_add-i-in-loop-i c = omega arith
-
-pub loop-i-smaller : goal.loop-i-smaller
-loop-i-smaller c = omega arith
 
 pub loop-i-preserved : goal.loop-i-preserved
 loop-i-preserved c = let p = c.args in let l = c.loop-i in let n : length p.ranges ≡ 14 = search rules in let e = c.put.ensures in (

@@ -14,11 +14,11 @@ use Rattle.answers.proofs.tables.put_rows.Goals as goal
 pub loop-i-init : goal.loop-i-init
 loop-i-init c = (omega arith, refl, refl)
 
-pub offset_bounds-rows-i : goal.offset_bounds-rows-i
-offset_bounds-rows-i c = omega arith
+pub offset_bounds-t-items-i : goal.offset_bounds-t-items-i
+offset_bounds-t-items-i c = omega arith
 
-pub bounds-rows-i : goal.bounds-rows-i
-bounds-rows-i c = omega arith
+pub bounds-t-items-i : goal.bounds-t-items-i
+bounds-t-items-i c = omega arith
 
 pub row_words-w-requires : goal.row_words-w-requires
 row_words-w-requires c = search rules
@@ -34,12 +34,6 @@ slice_bounds-put-end c = search rules
 
 pub put-requires : goal.put-requires
 put-requires c = omega (arith, ap length c.row_words-w.ensures)
-
-pub overflow_add-i-in-loop-i : goal.overflow_add-i-in-loop-i
-overflow_add-i-in-loop-i c = omega arith
-
-pub loop-i-smaller : goal.loop-i-smaller
-loop-i-smaller c = omega arith
 
 pub loop-i-preserved : goal.loop-i-preserved
 loop-i-preserved c = let p = c.args in let l = c.loop-i in let n : length p.rows ≡ 11 = search rules in let w = c.row_words-w.ensures in let e = c.put.ensures in (

@@ -7,7 +7,4 @@ use Rattle.answers.proofs.tables.put_rows.Given as goal
 
 -- the tables still to be put give what was to be put at first
 abbrev pub invariant-loop-i : goal.invariant-loop-i
-invariant-loop-i l = (l.i ≤ 11) × (length l.out ≡ length l.initial.out) × (put_words l.out (5 + l.i * 5) (rows_words (drop l.i l.rows)) ≡ put_words l.initial.out 5 (rows_words l.rows))
-
-abbrev pub decreases-loop-i : goal.decreases-loop-i
-decreases-loop-i l = 11 - l.i
+invariant-loop-i l = (l.i ≤ 11) × (length l.out ≡ length l.initial.out) × (put_words l.out (5 + l.i * 5) (rows_words (drop l.i l.t-items)) ≡ put_words l.initial.out 5 (rows_words l.t-items))

@@ -33,12 +33,6 @@ bounds-words-i c = omega arith
 pub set_be64-requires : goal.set_be64-requires
 set_be64-requires c = search rules
 
-pub overflow_add-i : goal.overflow_add-i
-overflow_add-i c = let h = c.well_formed.1.1.0.1 in omega arith
-
-pub loop-i-smaller : goal.loop-i-smaller
-loop-i-smaller c = omega arith
-
 pub loop-i-preserved : goal.loop-i-preserved
 loop-i-preserved c = let p = c.args in let l = c.loop-i in let e = c.set_be64.ensures.s_after in (
   omega arith,
