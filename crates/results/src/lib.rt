@@ -178,10 +178,8 @@ fn put_tables(out: &mut [u8], rows: [Table; 11])
     requires { 1072 ≤ length out.old }
     ensures { out.new ≡ put_words out.old 78 (flat table_words rows) }
 {
-    let mut i: usize = 0;
-    while i < 11 {
-        put_table(out, 78 + i * 5, rows[i]);
-        i = i + 1;
+    for (i, t) in rows.iter().enumerate() {
+        put_table(out, 78 + i * 5, *t);
     }
 }
 
@@ -317,10 +315,8 @@ fn held_in(m: &[u8], from: usize, count: usize) -> usize
     ensures { result ≡ length (held_from count from (behind_in m.now).slots) }
 {
     let mut n: usize = 0;
-    let mut i: usize = 0;
-    while i < count {
+    for i in 0..count {
         n = counting(n, behind::slot_at(m, from + i));
-        i = i + 1;
     }
     n
 }
@@ -388,12 +384,10 @@ fn held_ranges(out: &mut [u8], m: &[u8]) -> usize
     ensures result_after { put_words out.new (ranges_at + result * 4) (rows_words range_words (RANGES - result) 0 []) ≡ put_words out.old ranges_at (rows_words range_words RANGES 0 (ranges_of (behind_in m.now).slots)) }
 {
     let mut n: usize = 0;
-    let mut i: usize = 0;
-    while i < RANGES {
+    for i in 0..RANGES {
         let x = behind::slot_at(m, LENT + i);
         next_range(out, n, x);
         n = counting(n, x);
-        i = i + 1;
     }
     n
 }
@@ -403,10 +397,8 @@ fn no_ranges(out: &mut [u8], n: usize)
     ensures { out.new ≡ put_words out.old (ranges_at + n * 4) (rows_words range_words (RANGES - n) 0 []) }
 {
     let none = no_slot();
-    let mut i = n;
-    while i < RANGES {
+    for i in n..RANGES {
         put_range(out, RANGES_AT + i * 4, none);
-        i = i + 1;
     }
 }
 
@@ -443,12 +435,10 @@ fn held_lent(out: &mut [u8], m: &[u8]) -> usize
     ensures result_after { put_words out.new (lent_at + result * 3) (rows_words lent_words (LENT - result) 0 []) ≡ put_words out.old lent_at (rows_words lent_words LENT 0 (lent_of (behind_in m.now).slots)) }
 {
     let mut n: usize = 0;
-    let mut i: usize = 0;
-    while i < LENT {
+    for i in 0..LENT {
         let x = behind::slot_at(m, i);
         next_lent(out, n, x);
         n = counting(n, x);
-        i = i + 1;
     }
     n
 }
@@ -458,10 +448,8 @@ fn no_lent(out: &mut [u8], n: usize)
     ensures { out.new ≡ put_words out.old (lent_at + n * 3) (rows_words lent_words (LENT - n) 0 []) }
 {
     let none = no_slot();
-    let mut i = n;
-    while i < LENT {
+    for i in n..LENT {
         put_one(out, LENT_AT + i * 3, none);
-        i = i + 1;
     }
 }
 

@@ -10,7 +10,4 @@ use Rattle.results.proofs.Books.{count_start, count_turn, count_few, count_end}
 use Rattle.results.proofs.held_in.Given as goal
 
 abbrev pub invariant-loop-i : goal.invariant-loop-i
-invariant-loop-i l = (l.i ≤ l.count) × (l.n ≤ l.i) × (l.n + length (held_from (l.count - l.i) (l.from + l.i) (behind_in l.m).slots) ≡ length (held_from l.count l.from (behind_in l.m).slots))
-
-abbrev pub decreases-loop-i : goal.decreases-loop-i
-decreases-loop-i l = l.count - l.i
+invariant-loop-i l = (l.n ≤ l.i) × (l.n + length (held_from (l.count - l.i) (l.from + l.i) (behind_in l.m).slots) ≡ length (held_from l.count l.from (behind_in l.m).slots))

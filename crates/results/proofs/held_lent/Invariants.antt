@@ -11,9 +11,6 @@ use Rattle.results.proofs.Books.{count_few, held_put, put_length, held_done}
 use Rattle.results.proofs.held_lent.Given as goal
 
 abbrev pub invariant-loop-i : goal.invariant-loop-i
-invariant-loop-i l = (l.i ≤ LENT) × (l.n ≤ l.i) × (length l.out ≡ length l.initial.out)
+invariant-loop-i l = (l.n ≤ l.i)
     × (put_words l.out (lent_at + l.n * 3) (rows_words lent_words (LENT - l.n) 0 (held_from (LENT - l.i) (0 + l.i) (behind_in l.m).slots))
     ≡ put_words l.initial.out lent_at (rows_words lent_words LENT 0 (lent_of (behind_in l.m).slots)))
-
-abbrev pub decreases-loop-i : goal.decreases-loop-i
-decreases-loop-i l = LENT - l.i

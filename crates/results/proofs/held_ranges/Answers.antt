@@ -11,22 +11,13 @@ use Rattle.results.proofs.Books.{count_few, held_put, put_length, held_done}
 use Rattle.results.proofs.held_ranges.Goals as goal
 
 pub loop-i-init : goal.loop-i-init
-loop-i-init c = (omega arith, omega arith, refl, refl)
-
-pub overflow_add-i : goal.overflow_add-i
-overflow_add-i c = omega arith
+loop-i-init c = (omega arith, refl)
 
 pub next_range-requires : goal.next_range-requires
-next_range-requires c = let h = c.requires in let l = c.loop-i in let n = l.invariant.2 in (omega arith, omega arith)
+next_range-requires c = let h = c.requires in let l = c.loop-i in (omega arith, omega arith)
 
 pub counting-n-requires : goal.counting-n-requires
 counting-n-requires c = let l = c.loop-i in let h = c.loop-i-test.true in omega arith
-
-pub overflow_add-i-in-loop-i : goal.overflow_add-i-in-loop-i
-overflow_add-i-in-loop-i c = omega arith
-
-pub loop-i-smaller : goal.loop-i-smaller
-loop-i-smaller c = omega arith
 
 pub loop-i-preserved : goal.loop-i-preserved
 loop-i-preserved c =
@@ -35,17 +26,12 @@ loop-i-preserved c =
     let h = c.loop-i-test.true in
     let x = c.slot_at-x.result in
     let e = c.next_range.ensures in (
-      omega arith,
-      subst (λ (o : ℕ). o ≤ l.i + 1) (sym c.counting-n.ensures) (count_few l.n l.i x l.invariant.1),
-      put_length (is_held x) l.out (ranges_at + l.n * 4) (range_words x) e ∙ l.invariant.2,
-      held_put range_words 4 (λ r. refl) l.out ranges_at RANGES l.n LENT l.i (behind_in p.m.now).slots l.invariant.1 h c.slot_at-x.ensures e c.counting-n.ensures ∙ l.invariant.3,
+      subst (λ (o : ℕ). o ≤ l.i + 1) (sym c.counting-n.ensures) (count_few l.n l.i x l.invariant.0),
+      held_put range_words 4 (λ r. refl) l.out ranges_at RANGES l.n LENT l.i (behind_in p.m.now).slots l.invariant.0 h c.slot_at-x.ensures e c.counting-n.ensures ∙ l.invariant.1,
     )
-
-pub shape_of-out : goal.shape_of-out
-shape_of-out c = c.loop-i.invariant.2
 
 pub returns : goal.returns
 returns c =
     let p = c.args in
     let l = c.loop-i in
-    record { upper_bound = omega arith; result_after = held_done range_words l.out (ranges_at + l.n * 4) (RANGES - l.n) (LENT + l.i) RANGES l.i (behind_in p.m.now).slots c.loop-i-test.false l.invariant.3 }
+    record { upper_bound = omega arith; result_after = held_done range_words l.out (ranges_at + l.n * 4) (RANGES - l.n) (LENT + l.i) RANGES l.i (behind_in p.m.now).slots c.loop-i-test.false l.invariant.1 }

@@ -11,9 +11,6 @@ use Rattle.results.proofs.Books.{count_few, held_put, put_length, held_done}
 use Rattle.results.proofs.held_ranges.Given as goal
 
 abbrev pub invariant-loop-i : goal.invariant-loop-i
-invariant-loop-i l = (l.i ≤ RANGES) × (l.n ≤ l.i) × (length l.out ≡ length l.initial.out)
+invariant-loop-i l = (l.n ≤ l.i)
     × (put_words l.out (ranges_at + l.n * 4) (rows_words range_words (RANGES - l.n) 0 (held_from (RANGES - l.i) (LENT + l.i) (behind_in l.m).slots))
     ≡ put_words l.initial.out ranges_at (rows_words range_words RANGES 0 (ranges_of (behind_in l.m).slots)))
-
-abbrev pub decreases-loop-i : goal.decreases-loop-i
-decreases-loop-i l = RANGES - l.i

@@ -13,8 +13,4 @@ use Rattle.results.proofs.Books.{none_put, rows_done}
 use Rattle.results.proofs.no_lent.Given as goal
 
 abbrev pub invariant-loop-i : goal.invariant-loop-i
-invariant-loop-i l = (l.n ≤ l.i) × (l.i ≤ LENT) × (length l.out ≡ length l.initial.out)
-    × (put_words l.out (lent_at + l.i * 3) (rows_words lent_words (LENT - l.i) 0 []) ≡ put_words l.initial.out (lent_at + l.n * 3) (rows_words lent_words (LENT - l.n) 0 []))
-
-abbrev pub decreases-loop-i : goal.decreases-loop-i
-decreases-loop-i l = LENT - l.i
+invariant-loop-i l = put_words l.out (lent_at + l.i * 3) (rows_words lent_words (LENT - l.i) 0 []) ≡ put_words l.initial.out (lent_at + l.n * 3) (rows_words lent_words (LENT - l.n) 0 [])

@@ -13,37 +13,18 @@ use Rattle.results.proofs.Books.{none_put, rows_done}
 use Rattle.results.proofs.no_ranges.Goals as goal
 
 pub loop-i-init : goal.loop-i-init
-loop-i-init c = let h = c.requires in (omega arith, omega arith, refl, refl)
-
-pub overflow_mul-i : goal.overflow_mul-i
-overflow_mul-i c = omega arith
-
-pub overflow_add-i : goal.overflow_add-i
-overflow_add-i c = omega arith
+loop-i-init c = refl
 
 pub put_range-requires : goal.put_range-requires
-put_range-requires c = let h = c.requires in let l = c.loop-i in let n = l.invariant.2 in omega arith
-
-pub overflow_add-i-in-loop-i : goal.overflow_add-i-in-loop-i
-overflow_add-i-in-loop-i c = omega arith
-
-pub loop-i-smaller : goal.loop-i-smaller
-loop-i-smaller c = omega arith
+put_range-requires c = let h = c.requires in let l = c.loop-i in omega arith
 
 pub loop-i-preserved : goal.loop-i-preserved
 loop-i-preserved c =
     let l = c.loop-i in
     let h = c.loop-i-test.true in
-    let e = c.put_range.ensures ∙ ap (λ (x : Slot). put_words l.out (ranges_at + l.i * 4) (range_words x)) c.no_slot-none.ensures in (
-      omega arith,
-      omega arith,
-      ap length e ∙ length_words l.out (ranges_at + l.i * 4) (range_words no_slot) ∙ l.invariant.2,
-      ap (λ (x : List ℕ). put_words x (ranges_at + (l.i + 1) * 4) (rows_words range_words (RANGES - (l.i + 1)) 0 [])) e
-          ∙ none_put range_words 4 (λ r. refl) l.out ranges_at RANGES l.i h ∙ l.invariant.3,
-    )
-
-pub shape_of-out : goal.shape_of-out
-shape_of-out c = c.loop-i.invariant.2
+    let e = c.put_range.ensures ∙ ap (λ (x : Slot). put_words l.out (ranges_at + l.i * 4) (range_words x)) c.no_slot-none.ensures in
+    ap (λ (x : List ℕ). put_words x (ranges_at + (l.i + 1) * 4) (rows_words range_words (RANGES - (l.i + 1)) 0 [])) e
+    ∙ none_put range_words 4 (λ r. refl) l.out ranges_at RANGES l.i h ∙ l.invariant
 
 pub returns : goal.returns
-returns c = let l = c.loop-i in rows_done range_words l.out (ranges_at + l.i * 4) RANGES l.i c.loop-i-test.false ∙ l.invariant.3
+returns c = let l = c.loop-i in rows_done range_words l.out (ranges_at + l.i * 4) RANGES l.i c.loop-i-test.false ∙ l.invariant

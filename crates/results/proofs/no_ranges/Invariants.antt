@@ -13,8 +13,4 @@ use Rattle.results.proofs.Books.{none_put, rows_done}
 use Rattle.results.proofs.no_ranges.Given as goal
 
 abbrev pub invariant-loop-i : goal.invariant-loop-i
-invariant-loop-i l = (l.n ≤ l.i) × (l.i ≤ RANGES) × (length l.out ≡ length l.initial.out)
-    × (put_words l.out (ranges_at + l.i * 4) (rows_words range_words (RANGES - l.i) 0 []) ≡ put_words l.initial.out (ranges_at + l.n * 4) (rows_words range_words (RANGES - l.n) 0 []))
-
-abbrev pub decreases-loop-i : goal.decreases-loop-i
-decreases-loop-i l = RANGES - l.i
+invariant-loop-i l = put_words l.out (ranges_at + l.i * 4) (rows_words range_words (RANGES - l.i) 0 []) ≡ put_words l.initial.out (ranges_at + l.n * 4) (rows_words range_words (RANGES - l.n) 0 [])

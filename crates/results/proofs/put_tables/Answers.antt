@@ -17,42 +17,15 @@ abbrev table_of : List ℕ → Table
 table_of w = record { index = at w 0; entry = at w 1; count = at w 2; bytes = at w 3; base = at w 4 }
 
 pub loop-i-init : goal.loop-i-init
-loop-i-init c = (omega arith, refl, refl)
-
-pub overflow_mul-i : goal.overflow_mul-i
-overflow_mul-i c = omega arith
-
-pub overflow_add-i : goal.overflow_add-i
-overflow_add-i c = omega arith
-
-pub offset_bounds-rows-i : goal.offset_bounds-rows-i
-offset_bounds-rows-i c = omega arith
-
-pub bounds-rows-i : goal.bounds-rows-i
-bounds-rows-i c = omega arith
-
-pub put_table-requires : goal.put_table-requires
-put_table-requires c = omega arith
-
-pub overflow_add-i-in-loop-i : goal.overflow_add-i-in-loop-i
-overflow_add-i-in-loop-i c = omega arith
-
-pub loop-i-smaller : goal.loop-i-smaller
-loop-i-smaller c = omega arith
+loop-i-init c = refl
 
 pub loop-i-preserved : goal.loop-i-preserved
-loop-i-preserved c = let p = c.args in let l = c.loop-i in let e = c.put_table.ensures in (
-  omega arith,
-  ap length e ∙ length_words l.out (78 + l.i * 5) (table_words (get_or p.rows l.i none)) ∙ l.invariant.1,
-  ap (λ (x : List ℕ). put_words x (78 + (l.i + 1) * 5) (flat table_words (drop (l.i + 1) p.rows))) e
-      ∙ flat_turn table_of table_words 5 (λ r. refl) l.out 78 none p.rows l.i (let n : length p.rows ≡ 11 = search rules in omega arith) ∙ l.invariant.2,
-)
-
-pub shape_of-out : goal.shape_of-out
-shape_of-out c = c.loop-i.invariant.1
+loop-i-preserved c = let p = c.args in let l = c.loop-i in let e = c.put_table.ensures in
+    ap (λ (x : List ℕ). put_words x (78 + (l.i + 1) * 5) (flat table_words (drop (l.i + 1) p.rows))) e
+    ∙ flat_turn table_of table_words 5 (λ r. refl) l.out 78 none p.rows l.i (let n : length p.rows ≡ 11 = search rules in omega arith) ∙ l.invariant
 
 pub returns : goal.returns
 unfolding put_words flat
 returns c = let p = c.args in let l = c.loop-i in
     let e : drop l.i p.rows ≡ [] = drop_of_length-le p.rows {i = l.i} (let n : length p.rows ≡ 11 = search rules in omega arith) in
-    sym (ap (λ (rs : List Table). put_words l.out (78 + l.i * 5) (flat table_words rs)) e) ∙ l.invariant.2
+    sym (ap (λ (rs : List Table). put_words l.out (78 + l.i * 5) (flat table_words rs)) e) ∙ l.invariant

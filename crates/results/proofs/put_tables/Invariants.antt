@@ -12,7 +12,4 @@ use Rattle.results.proofs.put_tables.Given as goal
 
 -- the rows still to be put give what was to be put at first
 abbrev pub invariant-loop-i : goal.invariant-loop-i
-invariant-loop-i l = (l.i ≤ 11) × (length l.out ≡ length l.initial.out) × (put_words l.out (78 + l.i * 5) (flat table_words (drop l.i l.rows)) ≡ put_words l.initial.out 78 (flat table_words l.rows))
-
-abbrev pub decreases-loop-i : goal.decreases-loop-i
-decreases-loop-i l = 11 - l.i
+invariant-loop-i l = put_words l.out (78 + l.i * 5) (flat table_words (drop l.i l.fn.rows)) ≡ put_words l.initial.out 78 (flat table_words l.fn.rows)
