@@ -227,6 +227,7 @@ pub fn resource(bytes: &[u8]) -> Result<Option<BarRange>, BadList>
     ensures { listed result ≡ resource_at bytes.now }
 {
     let mut rest = bytes;
+    // No index is counted: each descriptor says how far the next one is.
     while rest.len() > 0 {
         if rest[0] != BarRange::TAG {
             return Ok(None);

@@ -122,6 +122,8 @@ pub enum NoReply {
     Wrong,
 }
 
+// What an answer says to a question of each kind. These are one function a kind: each takes another variant out, which no parameter of a generic one can name.
+
 // To a config read of 16 bits.
 pub fn as_word(a: Answer) -> Result<u16, NoReply>
     ensures { result ≡ word_of a }
