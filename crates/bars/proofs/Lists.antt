@@ -1,9 +1,9 @@
 -- Laws of resource lists: what is looked at, what is passed over, and where document 01's rule still holds.
-use Rattle.std.proofs.Common.{◌≡◌, ℕ, zero, suc, ◌+◌, ◌%◌, ◌^◌, ◌<◌, ◌≤◌, Bool, true, false, not, ◌&&◌, eqb, leb, List, [], ◌∷◌, ◌++◌, length, get_or, drop, sym, refl, ap, ◌∙◌, ap₂, add-zero, mod-eq_of_lt, arith, length-append, drop_at, eq-eqb, le-leb, leb-false, leb-true}
-use mathlib.Core.Option.{Option, some, none}
+use Rattle.std.proofs.Common.{◌≡◌, ℕ, zero, suc, ◌+◌, ◌^◌, ◌<◌, ◌≤◌, Bool, true, false, not, ◌&&◌, eqb, leb, List, [], ◌∷◌, ◌++◌, length, get_or, drop, sym, refl, ap, ◌∙◌, add-zero, mod-eq_of_lt, arith, length-append, drop_at, eq-eqb, le-leb, leb-false, leb-true}
+use mathlib.Core.Option.{Option, some}
 use borrow.Author.Tests.{lt-leb}
 use lib.ListN.{get_or-append}
-use Rattle.fields.specs.Outcome.{Outcome, value, refused, pick}
+use Rattle.fields.specs.Outcome.{value, pick}
 use Rattle.fields.specs.Fields.{number_at}
 use Rattle.fields.specs.declared.Order.TheVariants.{Little}
 use Rattle.fields.proofs.Laws.{Bytes, number_same, number_lt}

@@ -7,7 +7,7 @@ use mathlib.Core.Path.{◌≡◌, refl, sym, ◌∙◌, ap, subst}
 use lib.Dec.{eqb}
 use borrow.Author.Tests.{eqb-true}
 use Rattle.fields.specs.Outcome.{pick}
-use Rattle.pci.specs.Script.{Ask, Reply, good, failed, Spot, config_read16, config_read32, config_write16, config_write32, read, write, attributes, resource, stall, allocate, mapped, unmap, free, fence}
+use Rattle.pci.specs.Script.{Ask, Reply, good, failed, config_read16, config_read32, config_write16, config_write32, read, write, attributes, resource, stall, allocate, mapped, unmap, free, fence}
 use Rattle.card.specs.Card.{put, Hold, standing, Host, map_at, unmap_all, unmap_in, map_in, hand_out, hand_back, World, WorldStep, Allowed}
 use Rattle.card.specs.Owns.{InOrder}
 

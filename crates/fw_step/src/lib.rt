@@ -15,7 +15,7 @@ ghost use Rattle.fw_step.specs.Step as e;
 
 use fw_begin::Said;
 use fw_plan::Wipe;
-use pci::{Answer, Question};
+use pci::{Answer, NoReply, Question};
 use reply::{DevCap, PortInfo};
 use session::{Core, Note, Prepare, Stage};
 use work::{Ending, Task};
@@ -54,11 +54,17 @@ fn is_allocate(q: Question) -> bool
     matches!(q, Question::Allocate(_))
 }
 
+fn is_granted(r: Result<u64, NoReply>) -> bool
+    ensures { result ≡ f.is_granted r }
+{
+    matches!(r, Ok(_))
+}
+
 fn wipe_of(stage: Stage, q: Question, a: Answer) -> Wipe
     ensures { result ≡ e.wipe_at stage q a }
 {
     if is_allocate(q) {
-        if pci::as_handle(a).is_ok() {
+        if is_granted(pci::as_handle(a)) {
             return wipe_by(stage);
         }
         return Wipe::Neither;

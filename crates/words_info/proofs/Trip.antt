@@ -1,6 +1,5 @@
 -- What was put into words is read back from them.
 use Rattle.std.specs.Prelude.{ℕ, Option, Some, None}
-use Prim.Native.Nat.{◌<◌}
 use mathlib.Core.Path.{◌≡◌, refl}
 use native.Mathlib.Nat.{mod-eq_of_lt}
 use native.Mathlib.Omega.{arith}

@@ -1,4 +1,4 @@
-use Rattle.std.proofs.Common.{◌≡◌, ℕ, ◌+◌, Bool, List, length, take, drop, sym, ap, ap₂, ◌∙◌, length-take-le, arith, rules}
+use Rattle.std.proofs.Common.{◌≡◌, ℕ, ◌+◌, Bool, length, take, drop, ap, ◌∙◌, length-take-le, arith, rules}
 use Rattle.bars.specs.Bars.{bars}
 use Rattle.bars.proofs.Laws.{bars_start, bars_half, bars_end}
 use Rattle.bars.proofs.count.Goals as goal

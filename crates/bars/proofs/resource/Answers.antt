@@ -1,4 +1,4 @@
-use Rattle.std.proofs.Common.{◌≡◌, ℕ, ◌+◌, List, drop, sym, ap, ◌∙◌, arith}
+use Rattle.std.proofs.Common.{ℕ, ◌+◌, drop, sym, ap, ◌∙◌, arith}
 use borrow.Author.Rules.{part_to_end}
 use Rattle.bars.specs.Resource.{length_in, walk}
 use Rattle.bars.proofs.Walk.{walk_out, walk_other, walk_cut, walk_memory, walk_passed}

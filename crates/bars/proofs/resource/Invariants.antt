@@ -1,4 +1,4 @@
-use Rattle.std.proofs.Common.{◌≡◌, ℕ, length}
+use Rattle.std.proofs.Common.{◌≡◌, length}
 use Rattle.bars.specs.Resource.{walk}
 use Rattle.bars.proofs.resource.Given as goal
 

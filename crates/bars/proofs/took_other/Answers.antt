@@ -1,4 +1,4 @@
-use Rattle.std.proofs.Common.{suc, sym, ◌∙◌, add-one, arith, rules}
+use Rattle.std.proofs.Common.{suc, sym, ◌∙◌, add-one, arith}
 use Rattle.bars.proofs.Others.{others_end}
 use Rattle.bars.proofs.took_other.Goals as goal
 

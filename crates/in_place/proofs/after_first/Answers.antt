@@ -1,4 +1,3 @@
-use borrow.Author.Rules.{rules}
 use Rattle.in_place.proofs.after_first.Goals as goal
 
 pub returns-then-pending : goal.returns-then-pending

@@ -1,4 +1,3 @@
-use borrow.Author.Rules.{rules}
 use Rattle.in_place.proofs.ask_go.Goals as goal
 
 pub returns : goal.returns

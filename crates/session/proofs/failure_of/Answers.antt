@@ -1,4 +1,3 @@
-use borrow.Author.Rules.{rules}
 use Rattle.session.proofs.failure_of.Goals as goal
 
 pub returns-in-Done : goal.returns-in-Done

@@ -1,4 +1,3 @@
-use borrow.Author.Rules.{rules}
 use Rattle.words_beside.proofs.bar_phase_words.Goals as goal
 
 pub returns-in-Reading : goal.returns-in-Reading

@@ -1,4 +1,3 @@
-use borrow.Author.Rules.{rules}
 use Rattle.words_beside.proofs.control_words.Goals as goal
 
 pub returns-in-Absent : goal.returns-in-Absent

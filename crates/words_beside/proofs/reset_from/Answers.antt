@@ -1,4 +1,3 @@
-use borrow.Author.Rules.{rules}
 use Rattle.words_beside.proofs.reset_from.Goals as goal
 
 pub returns : goal.returns

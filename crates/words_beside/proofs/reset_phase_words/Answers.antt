@@ -1,4 +1,3 @@
-use borrow.Author.Rules.{rules}
 use Rattle.words_beside.proofs.reset_phase_words.Goals as goal
 
 pub returns-in-Saving : goal.returns-in-Saving

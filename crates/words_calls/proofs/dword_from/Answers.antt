@@ -1,4 +1,3 @@
-use borrow.Author.Rules.{rules}
 use borrow.Author.Tests.{le-leb, le-ltb, lt-leb, lt-ltb}
 use native.Mathlib.Nat.{mod-eq_of_lt}
 use Rattle.words_calls.proofs.dword_from.Goals as goal

@@ -1,4 +1,3 @@
-use borrow.Author.Rules.{rules}
 use Rattle.words_calls.proofs.put_turn.Goals as goal
 
 pub returns : goal.returns

@@ -1,4 +1,3 @@
-use borrow.Author.Rules.{rules}
 use Rattle.words_calls.proofs.question_words.Goals as goal
 
 pub returns-in-ConfigRead16 : goal.returns-in-ConfigRead16

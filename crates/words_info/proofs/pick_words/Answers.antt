@@ -1,4 +1,3 @@
-use borrow.Author.Rules.{rules}
 use Rattle.words_info.proofs.pick_words.Goals as goal
 
 pub returns : goal.returns

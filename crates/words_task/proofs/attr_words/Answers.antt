@@ -1,4 +1,3 @@
-use borrow.Author.Rules.{rules}
 use Rattle.words_task.proofs.attr_words.Goals as goal
 
 pub returns-in-Get : goal.returns-in-Get

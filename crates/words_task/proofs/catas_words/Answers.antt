@@ -1,4 +1,3 @@
-use borrow.Author.Rules.{rules}
 use Rattle.words_task.proofs.catas_words.Goals as goal
 
 pub returns-in-Known : goal.returns-in-Known

@@ -1,4 +1,3 @@
-use borrow.Author.Rules.{rules}
 use Rattle.words_task.proofs.claim_words.Goals as goal
 
 pub returns-in-Command : goal.returns-in-Command

@@ -1,4 +1,3 @@
-use borrow.Author.Rules.{rules}
 use Rattle.words_task.proofs.make_phase_words.Goals as goal
 
 pub returns-in-Allocate : goal.returns-in-Allocate

@@ -1,4 +1,3 @@
-use borrow.Author.Rules.{rules}
 use Rattle.words_task.proofs.parting_words.Goals as goal
 
 pub returns-in-Disown : goal.returns-in-Disown

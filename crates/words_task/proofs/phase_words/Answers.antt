@@ -1,4 +1,3 @@
-use borrow.Author.Rules.{rules}
 use Rattle.words_task.proofs.phase_words.Goals as goal
 
 pub returns-in-First : goal.returns-in-First

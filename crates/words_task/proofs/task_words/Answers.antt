@@ -1,4 +1,3 @@
-use borrow.Author.Rules.{rules}
 use Rattle.words_task.proofs.task_words.Goals as goal
 
 pub returns-in-Rest : goal.returns-in-Rest

@@ -1,4 +1,3 @@
-use borrow.Author.Rules.{rules}
 use Rattle.session.proofs.Core.broken_by.Goals as goal
 
 pub returns-then-needs_reset : goal.returns-then-needs_reset

@@ -1,4 +1,3 @@
-use borrow.Author.Rules.{rules}
 use Rattle.session.proofs.Core.took.Goals as goal
 
 pub returns : goal.returns
