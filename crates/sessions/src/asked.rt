@@ -13,7 +13,7 @@ pub(crate) struct Said {
 
 impl Said {
     // The question; an error where its kind has no such number.
-    pub fn asked(self) -> Result<Asked, UnknownKind> {
+    pub(crate) fn asked(self) -> Result<Asked, UnknownKind> {
         let kind = Kind::try_from(self.number)?;
         let values = self.values;
         Ok(Asked { kind, values })
