@@ -1,4 +1,4 @@
-// A bus call as it is compared and written.
+// A question of a task as it is compared and written.
 use pci::Question;
 use stored::question::{Asked, Kind};
 
