@@ -24,7 +24,7 @@ returns-in-Cap c =
     let p = c.args in
     let held = c.unwrap_or-cap.ensures ∙ ap (result_unwrap_or c.dev_cap.result) c.none.ensures ∙ c.dev_cap.ensures.held in
     let parts = noted_by_lem p.note n.Cap p.size p.outbox.now p.m.now _ c.in-Cap.is
-    (c.put_cap.ensures ∙ ap (λ (k : DevCap). put_part cap_at (cap_words k) p.m.now) held) (subst CapFits held (cap_typed _ _ c.unwrap_or-cap.type_inv.1.1.1.0)) in record { m_after = parts.0; rewrites = parts.1 }
+    (c.put_cap.ensures ∙ ap (λ (k : DevCap). put_part cap_at (cap_words k) p.m.now) held) (subst CapFits held (cap_typed _ _ c.unwrap_or-cap.type_inv)) in record { m_after = parts.0; rewrites = parts.1 }
 
 pub returns-in-Port : goal.returns-in-Port
 returns-in-Port c =
@@ -32,4 +32,4 @@ returns-in-Port c =
     let i = c.in-Port.i in
     let held = c.unwrap_or-info.ensures ∙ ap (result_unwrap_or c.query_port.result) c.none-in-Port.ensures ∙ c.query_port.ensures.held in
     let parts = noted_by_lem p.note (n.Port i) p.size p.outbox.now p.m.now _ c.in-Port.is
-    (c.put_port.ensures ∙ ap (λ (k : PortInfo). put_part (pick (eqb i 1) port1_at port2_at) (port_words k) p.m.now) held) (subst PortFits held (port_typed _ _ c.unwrap_or-info.type_inv.1.1.1.0)) in record { m_after = parts.0; rewrites = parts.1 }
+    (c.put_port.ensures ∙ ap (λ (k : PortInfo). put_part (pick (eqb i 1) port1_at port2_at) (port_words k) p.m.now) held) (subst PortFits held (port_typed _ _ c.unwrap_or-info.type_inv)) in record { m_after = parts.0; rewrites = parts.1 }
