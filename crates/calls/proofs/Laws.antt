@@ -6,7 +6,7 @@ use mathlib.Core.Path.{◌≡◌, refl, ap, sym, subst, ◌∙◌}
 use borrow.Author.Tests.{le-ltb, ltb-true, ltb-false}
 use lib.Dec.{ltb}
 use lib.ListN.{length}
-use Rattle.fields.specs.Outcome.{Outcome, value, number_of, pick}
+use Rattle.fields.specs.Outcome.{value, number_of, pick}
 use Rattle.words.specs.Places.{task_at, state_bytes}
 use Rattle.words_calls.specs.Calls.{turn_in}
 use Rattle.words_session.specs.Image.{core_of, behind_of, session_words, core_in, head_in, decode_of, encoded_in}
@@ -36,7 +36,7 @@ use Rattle.calls_plan.proofs.Refusals.{too_short}
 use Rattle.bytes_plan.specs.Left.{cleared_in, headed_in, call_left}
 use Rattle.abi.specs.Turns.{After, after, taken, turned, call_known}
 use Rattle.abi.specs.Kept.{Keeps, Writes, given_by, next_by, call_next}
-use Rattle.abi.proofs.Turns.{held_full, in_time_lem, whole}
+use Rattle.abi.proofs.Turns.{held_full, in_time_lem}
 use Rattle.abi.proofs.Kept.{counted}
 use Rattle.calls.specs.Begins.{behind_for, admitted_as, admitted_next}
 

@@ -1,13 +1,13 @@
 -- WHAT IS LEFT OF A SESSION by an answer, in its parts.
 use Rattle.std.specs.Prelude.{Option}
-use Prim.Native.Nat.{ℕ, ◌<◌, ◌≤◌}
+use Prim.Native.Nat.{ℕ, ◌<◌}
 use mathlib.Core.Bool.{Bool, true, false}
 use mathlib.Core.Path.{◌≡◌, refl, ap, sym, subst, ◌∙◌}
 use mathlib.Core.List.{List}
 use borrow.Author.Tests.{ltb-true, ltb-false}
 use lib.Dec.{ltb}
 use lib.ListN.{length}
-use Rattle.fields.specs.Outcome.{value, pick}
+use Rattle.fields.specs.Outcome.{pick}
 use Rattle.words.specs.Places.{state_bytes}
 use Rattle.words_task.specs.Fits.{TaskFits}
 use Rattle.words_session.specs.Image.{put_task, decode_of}
@@ -28,7 +28,7 @@ use Rattle.session.specs.declared.Core.{Core}
 use Rattle.session.specs.declared.Note.{Note}
 use Rattle.session.specs.declared.Session.{Session}
 use Rattle.session.specs.declared.Slot.{Slot}
-use Rattle.behind.specs.Behind.{behind_in, put_part, slot_put, noted_in}
+use Rattle.behind.specs.Behind.{behind_in, slot_put, noted_in}
 use Rattle.behind.proofs.Laws.{put_short}
 use Rattle.fw_plan.specs.Calls.{wants, asks_of, booked_by, wipe_of}
 use Rattle.fw_plan.specs.declared.Wipe.{Wipe}

@@ -1,4 +1,3 @@
-use borrow.Author.Rules.{rules}
 use Rattle.calls.proofs.fits_inbox.Goals as goal
 
 pub returns-then-takes_input : goal.returns-then-takes_input

@@ -1,4 +1,3 @@
-use borrow.Author.Rules.{rules}
 use Rattle.calls.proofs.is_idle.Goals as goal
 
 pub returns-then-is_session : goal.returns-then-is_session

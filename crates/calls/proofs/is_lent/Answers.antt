@@ -1,4 +1,3 @@
-use borrow.Author.Rules.{rules}
 use Rattle.calls.proofs.is_lent.Goals as goal
 
 pub returns-then-is_lent : goal.returns-then-is_lent

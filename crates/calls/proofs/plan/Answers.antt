@@ -1,5 +1,4 @@
 use mathlib.Core.Path.{ap, sym, ◌∙◌}
-use borrow.Author.Rules.{rules}
 use Rattle.session.specs.declared.Session.{Session}
 use Rattle.session.specs.declared.Core.{Core}
 use Rattle.session.specs.Core.{Behind, full, plan_in, none_behind}

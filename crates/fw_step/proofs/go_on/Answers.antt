@@ -1,4 +1,4 @@
-use mathlib.Core.Path.{refl, ap, sym, subst, ◌∙◌}
+use mathlib.Core.Path.{ap}
 use Rattle.pci.specs.declared.Question.{Question}
 use Rattle.words_task.proofs.Typed.{task_typed}
 use Rattle.fw_step.proofs.Laws.{task_keeps}

@@ -1,4 +1,4 @@
-use mathlib.Core.Path.{refl, ap, sym, subst, ◌∙◌}
+use mathlib.Core.Path.{refl, ap, subst, ◌∙◌}
 use Rattle.std.specs.Result.{result_unwrap_or}
 use Rattle.reply.specs.declared.DevCap.{DevCap}
 use Rattle.reply.specs.declared.PortInfo.{PortInfo}
@@ -11,7 +11,6 @@ use Rattle.fields.specs.Outcome.{pick}
 use lib.Dec.{eqb}
 use Rattle.session.specs.declared.Note.TheVariants as n
 use Rattle.fw_step.proofs.Laws.{noted_by_lem}
-use borrow.Author.Rules.{rules}
 use Rattle.fw_step.proofs.put_note.Goals as goal
 
 pub returns-in-Nothing : goal.returns-in-Nothing

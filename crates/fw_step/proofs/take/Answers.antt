@@ -1,11 +1,10 @@
-use mathlib.Core.Path.{refl, ap, sym, ◌∙◌}
+use mathlib.Core.Path.{ap, ◌∙◌}
 use Rattle.pci.specs.declared.Question.{Question}
 use Rattle.work.specs.Work.{work_step_of}
 use Rattle.work.specs.declared.Work.{Work}
 use Rattle.session.specs.Core.{full}
 use Rattle.behind.specs.Behind.{behind_in}
-use Rattle.intask.specs.InTask.{going_of, beside_in}
-use Rattle.booking.specs.Booking.{slot_by}
+use Rattle.intask.specs.InTask.{going_of}
 use Rattle.fw_step.specs.Step.{wipe_at}
 use Rattle.fw_step.proofs.Laws.{work_kept, steps, both, took_is}
 use borrow.Author.Rules.{rules}

@@ -1,4 +1,4 @@
-use mathlib.Core.Path.{refl, ap, sym, subst, ◌∙◌}
+use mathlib.Core.Path.{ap, sym, ◌∙◌}
 use Rattle.fw_plan.specs.declared.Wipe.{Wipe}
 use Rattle.fw_plan.specs.Calls.{wiped_in, wiped_out}
 use borrow.Author.Rules.{rules}
