@@ -1,6 +1,7 @@
 -- The exponent of a block: it is allowed, its power divides both addresses and is at most what is left, and none above it is so.
-use Rattle.std.proofs.Common.{◌≡◌, ℕ, zero, suc, ◌-◌, ◌%◌, ◌^◌, ◌<◌, ◌≤◌, Bool, true, false, ◌&&◌, eqb, leb, sym, refl, ap, ◌∙◌, sub-one, arith, eq-eqb, eqb-true, le-leb, leb-false, leb-true}
+use Rattle.std.proofs.Common.{◌≡◌, ℕ, zero, suc, ◌-◌, ◌/◌, ◌%◌, ◌^◌, ◌<◌, ◌≤◌, Bool, true, false, ◌&&◌, eqb, leb, sym, refl, ap, ◌∙◌, pow-suc, sub-one, arith, eq-eqb, eqb-true, le-leb, leb-false, leb-true}
 use native.Mathlib.Nat.{mod-one}
+use lib.Pow.{shl-shr}
 use Rattle.fields.specs.Outcome.{pick}
 use Rattle.dma.specs.Blocks.{stands, highest, exponent_of}
 
@@ -51,6 +52,10 @@ module _ (test : ℕ → Bool) where
   unfolding highest
   highest_above zero k h t = h
   highest_above (suc n) k h t = by_order k n (test (suc n)) (highest test n) refl t h (λ l. highest_above n k l t)
+
+pub half : (e : ℕ) → 0 < e → 2 ^ e / 2 ≡ 2 ^ (e - 1)
+half zero h = absurd (omega arith)
+half (suc n) h = rw (pow-suc, sub-one) (shl-shr (2 ^ n) 1)
 
 pub and_left : (a b : Bool) → (a && b) ≡ true → a ≡ true
 and_left true b e = refl

@@ -101,24 +101,31 @@ impl Cutter {
         Err(BadAddress)
     }
 
-    // A block of 2^log bytes can stand at the addresses.
-    fn can_stand(self, largest: u32, log: u32) -> bool
-        requires { log < 64 }
+    // A block of size bytes, 2^log, can stand at the addresses.
+    fn can_stand(self, largest: u32, log: u32, size: u64) -> bool
+        requires { size ≡ 2 ^ log }
         ensures { result ≡ stands largest (virt_of self.virt) self.phys self.left log }
     {
-        let size = 1u64 << log;
+        if largest < log {
+            return false;
+        }
+        if self.left < size {
+            return false;
+        }
         let virt = self.virt.unwrap_or(0);
-        log <= largest && size <= self.left && self.phys % size == 0 && virt % size == 0
+        self.phys % size == 0 && virt % size == 0
     }
 
-    // The exponent of the next block.
+    // The exponent of the next block. The size is halved beside it: a shift at each exponent takes half as long again.
     fn next_log(self, largest: u32) -> u32
         ensures { result ≡ exponent_of largest (virt_of self.virt) self.phys self.left }
     {
+        let mut size = 1u64 << Block::LOG_MAX;
         for log in (1..=Block::LOG_MAX).rev() {
-            if self.can_stand(largest, log) {
+            if self.can_stand(largest, log, size) {
                 return log;
             }
+            size /= 2;
         }
         0
     }

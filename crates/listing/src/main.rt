@@ -5,7 +5,7 @@
 use layout::{Layout, Table};
 use reply::{DevCap, Kind};
 use std::io;
-use std::io::Read;
+use stored::input;
 
 fn refused(rt: &impl Print, number: u32) -> io::Result<()> {
     println!(rt; "refused {number}")
@@ -47,12 +47,12 @@ fn lay_out(rt: &impl Print, cap: DevCap) -> io::Result<()> {
 }
 
 // The bytes of a reply that are read; what stands behind them is not looked at.
-const ROOM: u64 = 4096;
+const ROOM: usize = 4096;
 
 fn main(rt: HostRuntime) -> io::Result<()> {
-    let mut space = Vec::new(rt.alloc());
-    rt.stdin().take(ROOM).read_to_end(&mut space)?;
-    match reply::dev_cap(&space, None) {
+    let mut space = [0u8; ROOM];
+    let n = input::part(&mut rt.stdin(), &mut space)?;
+    match reply::dev_cap(&space[..n], None) {
         Ok(cap) => lay_out(&rt, cap),
         Err(why) => refused(&rt, why.number()),
     }

@@ -9,7 +9,6 @@ mod run;
 mod start;
 
 use record::Head;
-use std::alloc::Global;
 use std::io;
 use stored::input;
 
@@ -17,11 +16,12 @@ use stored::input;
 const ROOM: usize = 8192;
 
 // No list has so many records; a proved loop has to end.
-fn replay(rt: &impl Print, input: &mut impl io::Read, alloc: Global) -> io::Result<()> {
+fn replay(rt: &impl Print, input: &mut impl io::Read) -> io::Result<()> {
     for _ in 0..u64::MAX {
-        let Some(head) = input::head(input, alloc, Head::BYTES)? else {
+        let mut head = [0u8; Head::BYTES];
+        if !input::head(input, &mut head)? {
             return Ok(());
-        };
+        }
         let h = record::head_of(&head);
         let mut body = [0u8; ROOM];
         if !input::filled(input, &mut body, record::length(h))? {
@@ -33,5 +33,5 @@ fn replay(rt: &impl Print, input: &mut impl io::Read, alloc: Global) -> io::Resu
 }
 
 fn main(rt: HostRuntime) -> io::Result<()> {
-    replay(&rt, &mut rt.stdin(), rt.alloc())
+    replay(&rt, &mut rt.stdin())
 }

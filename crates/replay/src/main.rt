@@ -13,7 +13,6 @@ mod words;
 ghost use Rattle.std.specs.Prelude.{◌≤◌};
 
 use records::Head;
-use std::alloc::Global;
 use std::io;
 use stored::input;
 
@@ -50,16 +49,12 @@ fn report(rt: &impl Print, all: &Tallies) -> io::Result<()> {
 }
 
 // No list has so many records; a proved loop has to end.
-fn replay(
-    rt: &impl Print,
-    input: &mut impl io::Read,
-    alloc: Global,
-    all: &mut Tallies,
-) -> io::Result<()> {
+fn replay(rt: &impl Print, input: &mut impl io::Read, all: &mut Tallies) -> io::Result<()> {
     for _ in 0..u64::MAX {
-        let Some(head) = input::head(input, alloc, Head::BYTES)? else {
+        let mut head = [0u8; Head::BYTES];
+        if !input::head(input, &mut head)? {
             return Ok(());
-        };
+        }
         let h = records::head_of(&head);
         let mut body = [0u8; ROOM];
         if !input::filled(input, &mut body, records::length(h))? {
@@ -76,6 +71,6 @@ fn main(rt: HostRuntime) -> io::Result<()> {
         differ: 0,
     };
     let mut all = [none; names::NO_LEAF + 1];
-    replay(&rt, &mut rt.stdin(), rt.alloc(), &mut all)?;
+    replay(&rt, &mut rt.stdin(), &mut all)?;
     report(&rt, &all)
 }

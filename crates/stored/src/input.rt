@@ -1,24 +1,44 @@
 // Records of an input: a head of a fixed length, and a body whose length the head says.
-ghost use Rattle.std.specs.Prelude.{◌≡◌, ◌≤◌, ◌↔◌, [], IsTrue, IsNone, IfOk, IfSome, length, take, vec_len};
-ghost use Rattle.std.specs.Io.KnownBytes.{Consumes};
+ghost use Rattle.std.specs.Prelude.{◌≡◌, ◌≤◌, ◌<◌, ◌↔◌, [], false, IsTrue, IfOk, IfSome, length, take};
+ghost use Rattle.std.specs.Io.KnownBytes.{Consumes, IsAtEnd};
 ghost use Rattle.stored.specs.Input.{padded};
 
-use std::alloc::Global;
 use std::io;
 use std::io::{ErrorKind, Read};
 
-// The head of a record, with zeros for the bytes that the input no longer has; nothing at the input's end.
-pub fn head<R: Read>(input: &mut R, alloc: Global, n: usize) -> io::Result<Option<Vec<u8>>>
-    ensures size { IfOk result (λ o. IfSome o (λ v. vec_len v ≡ n)) }
-    ensures bytes { IfOk result (λ o. IfSome (R.remaining input.old) (λ xs. IfSome o (λ v. v.items ≡ padded n xs))) }
-    ensures none { IfOk result (λ o. IfSome (R.remaining input.old) (λ xs. IsNone o ↔ take n xs ≡ [])) }
+// Puts the next bytes at the start of the room, as many as it has room for or the input has left, and says how many.
+pub fn part<R: Read>(input: &mut R, room: &mut [u8]) -> io::Result<usize>
+    ensures fits { IfOk result (λ n. n ≤ length room.new) }
+    ensures bytes { IfOk result (λ n. Consumes (R.remaining input.old) (R.remaining input.new) (take n room.new)) }
+    ensures end { IfOk result (λ n. n < length room.new → IsAtEnd (R.remaining input.new)) }
 {
-    let mut bytes = Vec::new(alloc);
-    if input.take(n as u64).read_to_end(&mut bytes)? == 0 {
-        return Ok(None);
+    let mut at = 0;
+    // No input is interrupted so often; a proved loop has to end.
+    for _ in 0..u64::MAX {
+        if at >= room.len() {
+            return Ok(at);
+        }
+        match input.read(&mut room[at..]) {
+            Ok(0) => return Ok(at),
+            Ok(n) => at += n,
+            Err(e) => {
+                if e.kind() != ErrorKind::Interrupted {
+                    return Err(e);
+                }
+            }
+        }
     }
-    bytes.resize(n, 0)?;
-    Ok(Some(bytes))
+    Err(ErrorKind::Interrupted.into())
+}
+
+// The head of a record, with zeros for the bytes that the input no longer has; false at the input's end.
+pub fn head<R: Read>(input: &mut R, room: &mut [u8]) -> io::Result<bool>
+    ensures bytes { IfOk result (λ b. IsTrue b → IfSome (R.remaining input.old) (λ xs. room.new ≡ padded (length room.new) xs)) }
+    ensures none { IfOk result (λ b. IfSome (R.remaining input.old) (λ xs. (b ≡ false) ↔ take (length room.new) xs ≡ [])) }
+{
+    let n = part(input, room)?;
+    room[n..].fill(0);
+    Ok(n != 0)
 }
 
 // Puts the next bytes, so many, at the start of the room; false where they have no room, or the input ends before.
@@ -44,19 +64,12 @@ mod tests {
     #[test]
     fn heads(rt: HostRuntime) -> Result<(), Fail> {
         let mut input: &[u8] = b"abcdef";
-        assert_eq!(rt;
-            head(&mut input, rt.alloc(), 4)?
-                .ok_or("no head")?
-                .as_slice(),
-            b"abcd".as_slice()
-        );
-        assert_eq!(rt;
-            head(&mut input, rt.alloc(), 4)?
-                .ok_or("no head")?
-                .as_slice(),
-            b"ef\0\0".as_slice()
-        );
-        assert!(rt; head(&mut input, rt.alloc(), 4)?.is_none());
+        let mut room = [9u8; 4];
+        assert!(rt; head(&mut input, &mut room)?);
+        assert_eq!(rt; room.as_slice(), b"abcd".as_slice());
+        assert!(rt; head(&mut input, &mut room)?);
+        assert_eq!(rt; room.as_slice(), b"ef\0\0".as_slice());
+        assert!(rt; !head(&mut input, &mut room)?);
         Ok(())
     }
 
